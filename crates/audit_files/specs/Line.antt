@@ -12,7 +12,8 @@ use Rattle.audit_files.specs.declared.order.Order.{Order}
 abbrev pub program_app : App
 program_app = on_top (λ s. record s { no_binary_name = true; has_version = true }) (new_app (codes "residency-audit"))
 
--- the program's command line with its two files, the journal's file, and its option
+-- the program's command line: the docket's file and the sheet's, which have to be named, the journal's file, and the
+-- option for facts
 abbrev pub audit_app : App
 audit_app = with_rule (with_rule (with_rule (with_rule program_app (required (word_rule (codes "docket")))) (required (word_rule (codes "sheet"))))
     (word_rule (codes "journal"))) (flag_rule (codes "facts"))
@@ -29,7 +30,7 @@ pub record GivesOrder (rows : List Row) (order : Order) : Type 0 where
 abbrev pub IsInput : Option Text → Type 0
 IsInput path = path ≡ Some (codes "-")
 
--- two of the files would come from standard input
+-- two of the files would come from standard input; `NamesTwice` says it of the files that the values name
 abbrev pub IsTwice : Option Text → Option Text → Option Text → Type 0
 IsTwice docket sheet journal = (IsInput docket × IsInput sheet) ⊎ ((IsInput docket × IsInput journal) ⊎ (IsInput sheet × IsInput journal))
 

@@ -4,7 +4,8 @@ use Rattle.program_shell.specs.Loading.{AreBytesIf, AreBytesOf}
 use Rattle.audit_files.specs.Line.{IsInput}
 use Rattle.audit_files.specs.declared.order.Order.{Order}
 
--- each file has the bytes of its own path, and there is a journal exactly if one is named
+-- these are the bytes of the files that the order names, and there is a journal exactly if one is
+-- named
 pub record AreFiles (order : Order) (input : Option (List ℕ)) (docket sheet : List ℕ) (journal : Option (List ℕ)) : Type 0 where
   pub docket_is : AreBytesOf order.docket.now input docket
   pub sheet_is : AreBytesOf order.sheet.now input sheet

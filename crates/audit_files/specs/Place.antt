@@ -7,7 +7,7 @@ use Rattle.docket.specs.declared.fault.DocketFault.TheVariants as docket
 use Rattle.audit_files.specs.declared.fault.FilesFault.{FilesFault}
 use Rattle.audit_files.specs.declared.fault.FilesFault.TheVariants as files
 
--- a fault in this file; memory that ran out has no file
+-- a fault in this file; running out of memory belongs to no file
 abbrev pub told_in : Part → RecordsFault → FilesFault
 told_in file (records.Docket docket.Memory) = files.Memory
 told_in file fault = files.Docket file fault

@@ -1,4 +1,4 @@
--- How the program ends, from its words, its input and its output.
+-- With which exit status the program ends, given its words, its input and what it has written.
 use Rattle.std.specs.Prelude.{◌≡◌, ◌≢◌, ℕ, Option, Result, List, MatchResult, String}
 use Rattle.std.specs.Global.{Vec}
 use Rattle.std.specs.Io.KnownBytes.{Appends}
@@ -22,11 +22,12 @@ pub record AnswersOrder (order : Order) (input old new : Option (List ℕ)) (ans
       (λ verdict. (text : List ℕ) × AnswersFiles order.facts docket sheet journal verdict text × Appends old new text)
       (λ fault. IsServingFault docket sheet journal fault × (fault ≢ Write → new ≡ old))
 
--- A file was not read, or the order was answered. Standard input is left as it was, if no file is standard input.
+-- A file of the order was not read, or the order was answered. If no file of the order is standard input, nothing
+-- was read from it.
 pub record Serves (input left old new : Option (List ℕ)) (status : ℕ) (order : Order) : Type 0 where
   pub kept : (NamesInput order → ⊥) → left ≡ input
   pub ends : EndsServed (AnswersOrder order input old new) exit_status_of old new status
 
--- how the program ends
+-- with which status the program ends, given its words, its input before and after, and its output before and after
 abbrev pub Ends : {A E : Type 0} → Result (Vec (String A)) E → Option (List ℕ) → Option (List ℕ) → Option (List ℕ) → Option (List ℕ) → ℕ → Type 0
 Ends words input left old new status = EndsAs Refuses Orders (Serves input left old new status) words old new status

@@ -6,11 +6,11 @@ use Rattle.match_model.specs.Instance.{is_withdrawn}
 use Rattle.docket.specs.Contents.{Contents}
 use Rattle.docket.specs.Texts.{programme_name, resident_name}
 
--- a row with a letter and one more field
+-- a row of a letter and one field
 abbrev pub short_row : List ℕ → List ℕ → List ℕ
 short_row letter field = letter ++ (codes "," ++ (field ++ codes "\n"))
 
--- a row with a letter and two more fields
+-- a row of a letter and two fields
 abbrev pub long_row : List ℕ → List ℕ → List ℕ → List ℕ
 long_row letter first second = letter ++ (codes "," ++ (first ++ (codes "," ++ (second ++ codes "\n"))))
 

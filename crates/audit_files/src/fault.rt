@@ -8,7 +8,8 @@ use thiserror::Error;
 /// Why an audit over files gave no answer.
 #[derive(Clone, Copy, Debug, PartialEq, Eq, Error)]
 pub enum FilesFault {
-    /// The docket has this fault, in this file. The fault has the number of the record in the file.
+    /// The files are no docket, for this fault in this file. The fault has the record's number in the
+    /// file.
     #[error("{fault}")]
     Docket { file: Part, fault: RecordsFault },
     /// The sheet's file has no record.
@@ -25,7 +26,8 @@ pub enum FilesFault {
     Write,
 }
 
-/// A fault of the docket's reader as a fault of the audit over files. Memory that ran out has no file.
+/// A fault of the docket's reader, as a fault of the audit over files. Running out of memory belongs
+/// to no file.
 pub fn told(there: FileFault) -> FilesFault
     ensures { result ≡ spec.told there }
 {

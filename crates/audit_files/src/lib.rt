@@ -22,6 +22,5 @@ mod status;
 pub use fault::{FilesFault, told};
 pub use order::Order;
 pub use program::audit_words;
-pub use reading::read_files;
 pub use serve::{Verdict, serve_files};
 pub use status::files_status;

@@ -104,7 +104,7 @@ fn command<'a>(alloc: Global) -> Result<Command<'a>, AllocError>
     command.arg(facts_option(alloc))
 }
 
-// What the parser finds in the words, for this command.
+// What the parser finds in the words, by this description of the command line.
 fn matches_of<'a, S: AsStr>(
     command: &mut Command<'a>,
     words: &'a [S],
@@ -117,7 +117,7 @@ fn matches_of<'a, S: AsStr>(
     command.try_get_matches_from_mut(words)
 }
 
-// The files that the words name, if they name a docket and a sheet.
+// The order that the words give, if they name the docket's file and the sheet's.
 fn order_named<'a>(matches: &ArgMatches<'a>) -> Option<Order<'a>>
     ensures { IfSome result (GivesOrder (rows_of (found_of matches.now))) }
 {

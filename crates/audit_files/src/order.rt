@@ -6,7 +6,7 @@ ghost use Rattle.audit_files.specs.Line.{IsInput, IsTwice};
 use docket::Part;
 use program_shell::is_input;
 
-/// Which files the command line asks to audit.
+/// Which files to audit, and whether facts are asked for.
 #[derive(Clone, Copy, Debug, PartialEq, Eq)]
 pub struct Order<'a> {
     /// The path of the docket's file.
@@ -20,7 +20,7 @@ pub struct Order<'a> {
 }
 
 impl<'a> Order<'a> {
-    /// The path of the file for this part.
+    /// The path of the file of this part.
     pub(crate) fn path_of(&self, part: Part) -> &'a str {
         match (part, self.journal) {
             (Part::Docket, _) => self.docket,

@@ -30,7 +30,7 @@ fn tell<T: Eprint>(told: &T, order: &Order, fault: &FilesFault) {
     };
 }
 
-// Writes the answer over the bytes of the files, or prints why there is no answer.
+// Writes the answer about the loaded files, or prints why there is no answer.
 fn serve_loaded<W: Write, T: Eprint, H: RandomSource>(
     rt: &H,
     alloc: Global,

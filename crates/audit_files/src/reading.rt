@@ -9,7 +9,7 @@ use std::alloc::Global;
 use std::random::RandomSource;
 
 /// Reads a docket from three files, each read as its own part. A missing file counts as empty.
-pub fn read_files<H: RandomSource>(
+pub(crate) fn read_files<H: RandomSource>(
     rt: &H,
     alloc: Global,
     docket: &[u8],

@@ -6,7 +6,7 @@ use crate::fault::FilesFault;
 use crate::serve::Verdict;
 use program_shell::records_status;
 
-/// The exit status after files at fault. The status is 1 if memory, reading or writing failed, else 3.
+/// The exit status after a fault: 1 if memory, reading or writing failed, and 3 if a file is at fault.
 pub fn files_status(fault: &FilesFault) -> u8
     ensures { result ≡ fault_status_of fault.now }
 {

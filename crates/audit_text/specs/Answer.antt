@@ -39,7 +39,7 @@ pending_name d (Due r) = resident_name d r
 pending_name d (Answers p) = programme_name d p
 pending_name d (Wish p) = programme_name d p
 
--- the fields after the word of a refusal; for a close they say what is pending
+-- the fields after the word of a refusal: for a refused close, what is pending and the name of its desk; else none
 abbrev pub refusal_fields : Contents → Refused → List (List ℕ)
 refusal_fields d (StillPending what) = pending_word what ∷ pending_name d what ∷ []
 refusal_fields d refused = []
@@ -52,7 +52,7 @@ pending_fields place kind name = codes "N" ∷ place ∷ codes "still-pending" �
 abbrev pub refused_fields : Contents → List ℕ → Refused → List (List ℕ)
 refused_fields d place refused = codes "N" ∷ place ∷ refusal_word refused ∷ refusal_fields d refused
 
--- how many events the journal has, or 0 without a journal
+-- how many events the journal has; 0 without a journal
 abbrev pub event_count : Option JournalParts → ℕ
 event_count (Some journal) = length journal.events
 event_count None = 0
@@ -66,7 +66,7 @@ fault_fields d (At place refused) = codes "N" ∷ decimal place ∷ refusal_word
 fault_fields d NotClosed = codes "N" ∷ decimal (event_count d.journal + 1) ∷ codes "not-closed" ∷ []
 fault_fields d (SheetDiffers r) = codes "D" ∷ resident_name d r ∷ []
 
--- the fields of an answer's row
+-- the fields of the row for a replay's answer
 abbrev pub answer_fields : Contents → Result Replayed ReplayFault → List (List ℕ)
 answer_fields d (Ok replayed) = codes "G" ∷ decimal replayed.events ∷ []
 answer_fields d (Err fault) = fault_fields d fault
@@ -75,12 +75,12 @@ answer_fields d (Err fault) = fault_fields d fault
 unfoldable pub worker_row : ℕ → ℕ → List ℕ
 worker_row worker events = row (codes "K" ∷ decimal worker ∷ decimal events ∷ [])
 
--- one row for each count: the worker's number, from this number on, and the count
+-- one row for each count, of the worker with this number and of those that follow
 unfoldable pub worker_rows : ℕ → List ℕ → List ℕ
 worker_rows first [] = []
 worker_rows first (events ∷ counts) = worker_row first events ++ worker_rows (first + 1) counts
 
--- the rows after a good answer's row: one for each worker, if there are counts
+-- the rows after those of an answer: one for each worker if the answer is good and there are counts, else none
 unfoldable pub count_rows : Result Replayed ReplayFault → Option (List ℕ) → List ℕ
 count_rows (Ok replayed) (Some counts) = worker_rows 0 counts
 count_rows answer counts = []

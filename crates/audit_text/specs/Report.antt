@@ -8,7 +8,7 @@ use Rattle.docket.specs.Texts.{programme_name, programme_row, resident_name}
 use Rattle.match_audit.specs.declared.report.AuditReport.{AuditReport}
 use Rattle.std.specs.List.{All}
 
--- whether the report found nothing that keeps the sheet from being stable
+-- whether the report has no unacceptable pair, no programme over its quota, and no blocking pair
 abbrev pub finds_nothing : AuditReport → Bool
 finds_nothing report =
     (length report.unacceptable.items == 0) && (length report.over.items == 0) && (length report.blocking.items == 0)
@@ -34,7 +34,7 @@ report_text d report =
     ++ flat_map (over_row d) report.over.items
     ++ flat_map (pair_row d (codes "B")) report.blocking.items
 
--- a resident and a programme of the docket
+-- the pair is that of a resident and a programme of the docket
 abbrev pub IsPairOf : Contents → ℕ × ℕ → Type 0
 IsPairOf d pair = IsResident d.instance pair.0 × IsProgramme d.instance pair.1
 

@@ -20,25 +20,27 @@ use Rattle.audit_text.specs.declared.status.Status.TheVariants.{Stable, Unstable
 use Rattle.audit_text.specs.Report.{report_text}
 use Rattle.audit_text.specs.Answer.{replay_text}
 
--- the status says whether the sheet is stable
+-- the status is that of a stable or an unstable sheet, and is the first exactly if the sheet is stable
 pub record TellsStable (inst : Instance) (sheet : List (Option ℕ)) (status : Status) : Type 0 where
   pub either : (status ≡ Stable) ⊎ (status ≡ Unstable)
   pub stable : (status ≡ Stable) ↔ IsStable inst sheet
 
--- the docket's sheet, and the report about it
+-- the docket has a sheet, and this is a report about it
 pub record SheetReport (d : Contents) : Type 0 where
   pub sheet : List (Option ℕ)
   pub has_sheet : d.sheet ≡ Some sheet
   pub report : AuditReport
   pub reports : Reports d.instance sheet report
 
--- the text that was appended, if it is known, is the report about the docket's sheet
+-- if the writer's contents are known, the report about the docket's sheet was appended to them; the status says
+-- whether the sheet is stable
 pub record WritesReport (d : Contents) (status : Status) (old new : Option (List ℕ)) : Type 0 where
   pub audit : SheetReport d
   pub tells : TellsStable d.instance audit.sheet status
   pub appended : Appends old new (report_text d audit.report)
 
--- the answer is that of a replay, or of a check if there is a sheet, and is not out of memory
+-- The answer is what a replay has to give for the journal: the placement, or a fault. If there is a sheet, it is
+-- checked, too. The answer is not out of memory.
 abbrev pub IsReplayAnswer : Instance → JournalParts → Option (List (Option ℕ)) → Result Replayed ReplayFault → Type 0
 IsReplayAnswer inst j None (Ok replayed) = IsGood inst j.capacity j.events × IsReplayOf inst j.events replayed
 IsReplayAnswer inst j None (Err fault) = IsListFault inst j.capacity j.events fault
@@ -50,20 +52,20 @@ IsReplayAnswer inst j (Some sheet) (Err fault) = IsCheckFault inst j.capacity j.
 abbrev pub counts_in : JournalParts → Option (List ℕ)
 counts_in j = option_map (λ by. counts_of by.workers by.who) j.by
 
--- the status for an answer
+-- the status of a replay: good without a fault, else bad
 abbrev pub replay_status : Result Replayed ReplayFault → Status
 replay_status (Ok replayed) = ReplayGood
 replay_status (Err fault) = ReplayBad
 
--- the docket's journal, and the answer about it
+-- the docket has a journal, and this is a right answer about it
 pub record JournalAnswer (d : Contents) : Type 0 where
   pub journal : JournalParts
   pub has_journal : d.journal ≡ Some journal
   pub answer : Result Replayed ReplayFault
   pub answers : IsReplayAnswer d.instance journal d.sheet answer
 
--- The text that was appended, if it is known, is the row of the answer about the docket's journal. If the answer is
--- good and the journal is by worker, each worker's count follows.
+-- If the writer's contents are known, the row of the answer about the docket's journal was appended to them. If the
+-- answer is good and the journal is by worker, each worker's count follows.
 pub record WritesReplay (d : Contents) (status : Status) (old new : Option (List ℕ)) : Type 0 where
   pub replay : JournalAnswer d
   pub tells : status ≡ replay_status replay.answer
@@ -89,7 +91,7 @@ IsReplayFault d NoJournal = d.journal ≡ None
 IsReplayFault d Memory = IsSome d.journal
 IsReplayFault d fault = ⊥
 
--- a fault before which nothing was written: any but the writer's
+-- a fault before which nothing was written: any fault but the writer's
 abbrev pub IsBeforeWriting : AnswerFault → Type 0
 IsBeforeWriting (Docket fault) = fault ≢ docket.Write
 IsBeforeWriting fault = Unit {0}

@@ -65,7 +65,7 @@ fn event_count(docket: &Docket) -> usize
     }
 }
 
-// Adds the row of a fault that is said by a word alone.
+// Adds the row of a fault that needs no more than a word.
 fn push_word<W: Write>(
     rows: &mut RowWriter<'_, W>,
     place: &[u8],
@@ -194,7 +194,7 @@ fn push_workers<W: Write>(rows: &mut RowWriter<'_, W>, counts: &[u64]) -> Result
     Ok(())
 }
 
-// Adds the rows that follow the row of a replay's answer.
+// Adds the rows after the row of a replay's answer: if the answer is good and there are counts, one for each worker.
 #[tactic(auto, unfolding(crate::specs::Answer::count_rows))]
 fn push_counts<W: Write>(
     rows: &mut RowWriter<'_, W>,
@@ -210,7 +210,7 @@ fn push_counts<W: Write>(
     }
 }
 
-// Adds the row of a replay's answer, and the rows that follow it.
+// Adds the row of a replay's answer, and the rows with the workers' counts after it.
 fn push_replay<W: Write>(
     rows: &mut RowWriter<'_, W>,
     docket: &Docket,

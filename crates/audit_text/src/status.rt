@@ -1,6 +1,6 @@
 //! The outcome of an audit or a replay.
 
-/// The outcome of an audit or a replay.
+/// What an audit or a replay found.
 #[derive(Clone, Copy, Debug, PartialEq, Eq)]
 pub enum Status {
     /// The sheet is stable.

@@ -2,11 +2,11 @@
 ghost use Rattle.std.specs.Prelude.{◌≡◌, ◌≤◌, IfOk, IfErr, IfSome, None, Some, codes, map, true, false};
 ghost use Rattle.exchange_core.specs.Shown.{is_capacity};
 ghost use Rattle.clap.specs.declared.error.kind.ErrorKind.TheVariants.{MissingSubcommand};
-ghost use Rattle.clap.specs.Words.{HasKind, app_of, fault_of, found_of, new_app, rows_of, rule_of, subcommand_of, subcommand_rows_of, with_subcommand};
+ghost use Rattle.clap.specs.Words.{HasKind, app_of, fault_of, found_of, new_app, rows_of, rule_of, subcommand_of, subcommand_rows_of};
 ghost use Rattle.program_shell.specs.declared.fault.LineFault.TheVariants.{BadCapacity};
 ghost use Rattle.program_shell.specs.Faults.{IsErrorOf};
 ghost use Rattle.program_shell.specs.Flags.{flag_rule};
-ghost use Rattle.command_line.specs.Line.{GivesJournal, GivesOptions, GivesRoom, GivesWorkers, HasBadRoom, IsNamed, NamesNone, Orders, Refuses, commands_app, match_app, program_app, valued_rule, workers_rule};
+ghost use Rattle.command_line.specs.Line.{GivesJournal, GivesOptions, GivesRoom, GivesWorkers, HasBadRoom, IsNamed, NamesNone, Orders, Refuses, commands_app, match_app, valued_rule, workers_rule};
 ghost use Rattle.command_line.specs.Options.{IsOrder, IsWithinLimits};
 
 use crate::options::{JournalForm, MatchOptions, Order};
@@ -14,7 +14,7 @@ use clap::error::ErrorKind;
 use clap::{Arg, ArgAction, ArgMatches, Command};
 use docket::capacity_of;
 use exchange_core::Capacity;
-use program_shell::{LineFault, line_fault};
+use program_shell::{LineFault, described, line_fault, with_command, with_commands};
 use std::alloc::{AllocError, Global};
 use std::convert::AsStr;
 use version::VERSION;
@@ -57,20 +57,6 @@ Exit status: 0 for a good journal; 4 for a bad one; 3 for a docket at fault or w
 2 for a wrong command line; 1 where memory, reading or writing failed.
 
 Example: cat examples/market.csv result.csv | residency replay";
-
-// The description of a command: its name, its usage and its help.
-fn described<'a>(
-    alloc: Global,
-    name: &'a str,
-    call: &'a str,
-    about: &'a str,
-    help: &'a str,
-) -> Command<'a>
-    ensures { app_of result ≡ new_app name.entry.now }
-{
-    let command = Command::new(alloc, name).override_usage(call);
-    command.about(about).after_help(help)
-}
 
 // The option that says how many threads work on a match.
 fn workers_option<'a>(alloc: Global) -> Arg<'a>
@@ -150,41 +136,18 @@ fn replay_command<'a>(alloc: Global) -> Command<'a>
     described(alloc, "replay", call, about, REPLAY_HELP)
 }
 
-// The description of the program's command line, without its commands.
-fn program<'a>(alloc: Global) -> Result<Command<'a>, AllocError>
-    ensures { IfOk result (λ command. app_of command ≡ program_app) }
-{
-    let program = Command::new(alloc, "residency").bin_name("residency")?;
-    Ok(
-        program
-            .about(
-                "Runs a residency match as an exchange of offers, over a docket on standard input",
-            )
-            .version(VERSION)
-            .no_binary_name(true)
-            .subcommand_required(true),
-    )
-}
-
-// The description of a program with this command added.
-fn with_command<'a>(program: Command<'a>, command: Command<'a>) -> Result<Command<'a>, AllocError>
-    requires { (app_of command).top.is_plain ≡ true }
-    ensures { IfOk result (λ both.
-        app_of both ≡ with_subcommand (app_of program.entry) (app_of command.entry).top) }
-{
-    program.subcommand(command)
-}
-
 // The description of the program's command line, with its commands.
 fn commands<'a>(alloc: Global) -> Result<Command<'a>, AllocError>
     ensures { IfOk result (λ command. app_of command ≡ commands_app) }
 {
-    let matching = with_command(program(alloc)?, match_command(alloc)?)?;
+    let about = "Runs a residency match as an exchange of offers, over a docket on standard input";
+    let program = with_commands(alloc, "residency", about, VERSION)?;
+    let matching = with_command(program, match_command(alloc)?)?;
     let auditing = with_command(matching, audit_command(alloc))?;
     with_command(auditing, replay_command(alloc))
 }
 
-// The number of workers that the words name, from 1 to 8. The number is 2 if the words do not name a number.
+// The number of workers, from 1 to 8, that the words give; 2 if they give none.
 fn workers_of(matches: &ArgMatches) -> usize
     ensures some { 1 ≤ result }
     ensures few { result ≤ 8 }
@@ -196,7 +159,8 @@ fn workers_of(matches: &ArgMatches) -> usize
     }
 }
 
-// The capacity of each mailbox that the words name. The capacity is full if the words do not name a capacity.
+// The capacity of the mailboxes that the words give; full if they give none. A text that stands for no
+// capacity is a fault.
 fn room_of(matches: &ArgMatches) -> Result<Capacity, LineFault>
     ensures admitted { IfOk result (λ room. is_capacity room ≡ true) }
     ensures given { IfOk result (GivesRoom (rows_of (found_of matches.now))) }
@@ -255,7 +219,7 @@ fn matches_of<'a, S: AsStr>(
     commands.try_get_matches_from_mut(words)
 }
 
-// What the words ask the program to do, if they name a command.
+// What the words ask the program to do, or none if they name no command.
 fn order_named(matches: &ArgMatches) -> Result<Option<Order>, LineFault>
     ensures order { IfOk result (λ named. IfSome named IsOrder) }
     ensures named { IfOk result (λ named. IfSome named (IsNamed (subcommand_rows_of matches.now))) }
@@ -286,7 +250,7 @@ fn nothing_named(commands: &mut Command) -> LineFault
 }
 
 /// What the words ask the program to do. The words are those after the program's own name.
-// Inlined, its frame would stand on the stack of all that the program does afterwards.
+// This function isn't inlined: its frame would stand on the stack of all that the program does afterwards.
 #[inline(never)]
 pub fn read_line<'a, S: AsStr>(alloc: Global, words: &'a [S]) -> Result<Order, LineFault>
     ensures order { IfOk result (Orders (map S.text words.entry.now)) }

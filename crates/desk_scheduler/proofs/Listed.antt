@@ -32,7 +32,8 @@ has_room places listed behind r s d are within none =
     let most = sum_by-le times 1 (set places d Listed) (λ k e l. times_le (get_or (set places d Listed) k e)) in
     omega (arith, more, most, length-set places d Listed, are.as_many, are.room, none)
 
--- how often a desk should be listed, after one desk's state changed
+-- after one desk's state changed, only the number of times that this desk should be listed is
+-- another
 moved_once : (places : List Place) (d : ℕ) (place : Place) (k : ℕ) → d < length places
     → times (get_or (set places d place) k Idle) ≡ cond (d == k) (times place) (times (get_or places k Idle))
 moved_once places d place k within = by (d == k) refl
@@ -41,7 +42,8 @@ moved_once places d place k within = by (d == k) refl
     by true e = ap times (get_or-set_at places d k place Idle (sym (eqb-true d k e)) within)
     by false e = ap times (get_or-set_other places d k place Idle (λ f. eqb-false d k e (sym f)))
 
--- the first tier after a desk is listed in it
+-- if a desk that isn't listed is added to the first tier, with the state for this, what is true of
+-- the tiers stays true
 pub listed_more : (places : List Place) (listed behind : List ℕ) (r s d : ℕ) → AreListed places listed behind r s → d < length places
     → times (get_or places d Idle) ≡ 0 → AreListed (set places d Listed) (listed ++ d ∷ []) behind r s
 listed_more places listed behind r s d are within none = record {
@@ -63,13 +65,15 @@ listed_more places listed behind r s d are within none = record {
         let new : times (get_or (set places d Listed) k Idle) ≡ times (get_or places k Idle) = moved_once places d Listed k within ∙ ap (λ (b : Bool). cond b 1 (times (get_or places k Idle))) e in
         omega (arith, are.once k, one, new)
 
--- the second tier after a desk is listed in it
+-- if a desk that isn't listed is added to the second tier, with the state for this, what is true of
+-- the tiers stays true
 pub listed_behind : (places : List Place) (listed behind : List ℕ) (r s d : ℕ) → AreListed places listed behind r s → d < length places
     → times (get_or places d Idle) ≡ 0 → AreListed (set places d Listed) listed (behind ++ d ∷ []) r s
 listed_behind places listed behind r s d are within none =
     swapped _ _ _ _ _ (listed_more places behind listed s r d (swapped _ _ _ _ _ are) within none)
 
--- a desk that isn't listed gets a state in which it isn't listed either
+-- if a desk that isn't listed gets another state in which it isn't listed, what is true of the
+-- tiers stays true
 pub moved_quietly : (places : List Place) (listed behind : List ℕ) (r s d : ℕ) (place : Place) → AreListed places listed behind r s → d < length places
     → times (get_or places d Idle) ≡ 0 → times place ≡ 0 → AreListed (set places d place) listed behind r s
 moved_quietly places listed behind r s d place are within none still = record {
@@ -107,7 +111,7 @@ top_within places rest behind r s d are = elim (cases_lt d (length places)) [
   | inr m ↦ absurd (omega (arith, top_is_listed places rest behind r s d are, ap times (get_or_past places d Idle m)))
 ]
 
--- the tiers after the desk in front is taken
+-- if the desk in front of a tier is taken in hand, what is true of the tiers stays true
 pub top_taken : (places : List Place) (rest behind : List ℕ) (r s d : ℕ) → AreListed places (rest ++ d ∷ []) behind r s → AreListed (set places d InHand) rest behind r s
 top_taken places rest behind r s d are = record {
   once = λ k. once k (d == k) refl;

@@ -40,7 +40,7 @@ some_same m n e = cc
 pub count_split : (d : ℕ) (xs ys : List ℕ) → sum_by (one_for d) (xs ++ d ∷ ys) ≡ sum_by (one_for d) xs + sum_by (one_for d) ys + 1
 count_split d xs ys = omega (arith, sum_by-append (one_for d) xs (d ∷ ys), sum_by-cons (one_for d) d ys, one_same d)
 
--- the first and the last desk of a list are counted in the list
+-- the first desk of a list is counted in the list
 pub first_counts : (d : ℕ) (ys : List ℕ) → first_of ys ≡ Some d → 1 ≤ sum_by (one_for d) ys
 first_counts d [] e = absurd (cc)
 first_counts d (y ∷ ys) e =

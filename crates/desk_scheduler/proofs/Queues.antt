@@ -141,7 +141,8 @@ module _ (w : Waits) (count m d : ℕ) (are : AreQueues w count) (within : d < l
           let new : one_waits_at m (linked_at (set w.mailbox d (Some m)) k) ≡ one_waits_at m (linked_at w.mailbox k) = ap (one_waits_at m) (mailbox_other k apart) in
           omega (arith, sum_by_push (one_for k) (queue_of w m) d, (are.queued m l).once k, not_one, new)
 
-      -- the links of a desk that waited for mailbox m before desk d joined
+      -- a desk that waited for mailbox m before desk d joined is linked as in the queue with d at its
+      -- end
       link_front : (xs : List ℕ) (k : ℕ) (zs : List ℕ) → queue_of w m ≡ xs ++ k ∷ zs → Linked (joined_rows w m d) xs k (zs ++ d ∷ [])
       link_front xs k [] e =
           let old = (are.queued m l).links xs k [] e in
@@ -165,7 +166,7 @@ module _ (w : Waits) (count m d : ℕ) (are : AreQueues w count) (within : d < l
                 absurd (omega (arith, counts, none_here))) ∙ old.behind;
           }
 
-      -- the links of desk d itself
+      -- desk d is linked as the last of the queue that it joined
       link_last : (xs zs : List ℕ) (k : ℕ) (ys : List ℕ) → xs ≡ queue_of w m ++ zs → d ∷ [] ≡ zs ++ k ∷ ys → Linked (joined_rows w m d) xs k ys
       link_last xs [] k ys front rest =
           let same : k ≡ d = cc in
@@ -263,7 +264,7 @@ module _ (w : Waits) (count m d : ℕ) (are : AreQueues w count) (waits : linked
   cut_here : m < length w.first → CutAt d (queue_of w m)
   cut_here l = cut_at d (queue_of w m) (omega (arith, (are.queued m l).once d, ap (one_waits_at m) waits, waits_here m))
 
-  -- the desks before and behind desk d wait for the same mailbox as d
+  -- the desk before desk d waits for the same mailbox as d
   before_waits : (e : ℕ) → linked_at w.before d ≡ Some e → linked_at w.mailbox e ≡ Some m
   before_waits e at = elim (cases_lt m (length w.first)) [
     | inl l ↦

@@ -9,7 +9,8 @@ pub record Schedule : Type 0 where
   pub waiting : ℕ
   pub ended : Bool
 
--- all desks are numbered: first the residents', then the programmes'
+-- desks are numbered: residents' desks from 0, programmes' desks from `first_programme`, and all numbers have
+-- 32 bits
 pub record IsNumbered (residents programmes : Desks) (first_programme : ℕ) : Type 0 where
   pub first : first_programme ≡ length residents.places
   pub fits : length residents.places + length programmes.places < 2 ^ 32

@@ -15,7 +15,7 @@ pub record Manned : Type 0 where
   pub looking : ℕ
   pub resting : ℕ
 
--- this many of the workers that look for a desk get one; no other count changes
+-- this many of the workers that look for a desk get one, and no other count changes
 pub record GetDesks (old new : Manned) (count : ℕ) : Type 0 where
   pub holding : new.holding ≡ old.holding + count
   pub looking : new.looking + count ≡ old.looking

@@ -8,14 +8,14 @@ use Rattle.desk_scheduler.specs.declared.side.Place.TheVariants.{Idle, Listed, I
 use Rattle.desk_scheduler.specs.Desks.{Desks, place_of, moved, listing, is_listed, taken}
 use Rattle.desk_scheduler.specs.Schedule.{Schedule}
 
--- the schedule after this change to the desks of one side
+-- the schedule after this change to desk d, given whether d is a resident's and else whether it is a programme's
 abbrev pub at_side : (Desks → ℕ → Desks) → Schedule → ℕ → Bool → Bool → Schedule
 at_side change s d true b = record { residents = change s.residents d; programmes = s.programmes; waiting = s.waiting; ended = s.ended }
 at_side change s d false true = record { residents = s.residents; programmes = change s.programmes (d - length s.residents.places); waiting = s.waiting; ended = s.ended }
 at_side change s d false false = s
 
--- the schedule after this change to the desk with this number; residents' desks come first, and numbers past the
--- programmes' change nothing
+-- the schedule after this change to desk d; residents' desks come first, and a number past the programmes' changes
+-- nothing
 abbrev pub at_desk : (Desks → ℕ → Desks) → Schedule → ℕ → Schedule
 at_desk change s d = at_side change s d (nat_lt d (length s.residents.places)) (nat_lt (d - length s.residents.places) (length s.programmes.places))
 
@@ -23,8 +23,8 @@ at_desk change s d = at_side change s d (nat_lt d (length s.residents.places)) (
 abbrev pub woken_by : Schedule → ℕ × Wake → Schedule
 woken_by s (d, wake) = at_desk (λ desks n. listing desks n wake) s d
 
--- A worker gets the next desk. A resident's desk comes first if one is listed. When the run ends, the worker gets
--- none.
+-- What a worker gets, and the schedule after it: no desk when the run ends, else a listed desk of a resident, else
+-- one of a programme, else none.
 abbrev pub next_from : Schedule → Bool → Option (ℕ × Desks) → Option (ℕ × Desks) → Next × Schedule
 next_from s true rs ps = (Ended, s)
 next_from s false (Some (r, rs)) ps = (Desk r, record { residents = rs; programmes = s.programmes; waiting = s.waiting; ended = s.ended })
@@ -34,7 +34,8 @@ next_from s false None None = (Nothing, s)
 abbrev pub next_of : Schedule → Next × Schedule
 next_of s = next_from s s.ended (taken s.residents) (taken s.programmes)
 
--- the place of the desk with this number; a number past the programmes' counts as held, so it is never idle
+-- the state of desk d, given whether d is a resident's and else whether it is a programme's; a number past the last
+-- desk counts as held
 abbrev pub place_of_side : Schedule → ℕ → Bool → Bool → Place
 place_of_side s d true b = place_of s.residents d
 place_of_side s d false true = place_of s.programmes (d - length s.residents.places)
@@ -51,8 +52,8 @@ in_hand desks d = moved desks d InHand
 abbrev pub any_ready : Schedule → Bool
 any_ready s = is_listed s.residents || is_listed s.programmes
 
--- A worker claims a desk at this place. If the desk is idle, the worker gets it; else the worker gets the next listed
--- desk.
+-- What a worker gets that asks for desk d, which has this state: when the run ends, none; if the desk is idle, this
+-- desk; else the next listed desk.
 abbrev pub claimed_from : Schedule → ℕ → Bool → Place → Next × Schedule
 claimed_from s d true place = (Ended, s)
 claimed_from s d false Idle = (Desk d, at_desk in_hand s d)
@@ -71,13 +72,13 @@ waiting_now s n = record { residents = s.residents; programmes = s.programmes; w
 abbrev pub ended_now : Schedule → Schedule
 ended_now s = record { residents = s.residents; programmes = s.programmes; waiting = s.waiting; ended = true }
 
--- a desk at this place is held by a worker, or has a number past the last desk
+-- the state is that of a held desk
 abbrev pub IsInHandAt : Place → Type 0
 IsInHandAt Idle = ⊥
 IsInHandAt Listed = ⊥
 IsInHandAt InHand = Unit {0}
 IsInHandAt InHandAgain = Unit {0}
 
--- a worker holds the desk with this number, or no desk has this number
+-- a worker holds desk d, or d is past the last desk
 abbrev pub IsInHand : Schedule → ℕ → Type 0
 IsInHand s d = IsInHandAt (place_at s d)

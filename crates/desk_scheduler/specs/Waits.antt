@@ -12,7 +12,7 @@ pub record Waits : Type 0 where
   pub behind : List (Option ℕ)
   pub called : List Bool
 
--- the link in a row at this number; none past the row's end
+-- the entry of a row at this number; none past the row's end
 abbrev pub linked_at : List (Option ℕ) → ℕ → Option ℕ
 linked_at row n = slice_index_or row n None
 
@@ -30,7 +30,7 @@ abbrev pub one_waits_at : ℕ → Option ℕ → ℕ
 one_waits_at m (Some mailbox) = cond (mailbox == m) 1 0
 one_waits_at m None = 0
 
--- this desk and the desks behind it, in order, up to a greatest number
+-- this desk and the desks behind it, in order, but at most this many
 abbrev pub waiting_from : List (Option ℕ) → ℕ → Option ℕ → List ℕ
 waiting_from behind zero desk = []
 waiting_from behind (suc most) None = []
@@ -40,7 +40,7 @@ waiting_from behind (suc most) (Some desk) = desk ∷ waiting_from behind most (
 abbrev pub queue_of : Waits → ℕ → List ℕ
 queue_of w m = waiting_from w.behind (length w.mailbox) (linked_at w.first m)
 
--- the first desk of a list, and the last desk of a list
+-- the first desk of a list; `last_of` is the last one
 abbrev pub first_of : List ℕ → Option ℕ
 first_of [] = None
 first_of (d ∷ ds) = Some d
@@ -57,17 +57,17 @@ abbrev pub without : ℕ → List ℕ → List ℕ
 without d [] = []
 without d (x ∷ xs) = cond (x == d) (without d xs) (x ∷ without d xs)
 
--- the links after this desk's link is set; without a desk, no link changes
+-- the links of a row after this desk's link is set; unchanged without a desk
 abbrev pub linked_to : List (Option ℕ) → Option ℕ → Option ℕ → List (Option ℕ)
 linked_to row None to = row
 linked_to row (Some desk) to = slice_set row desk to
 
--- the queues' ends after this mailbox's end is set; with a desk, no end changes
+-- the first or last desks of the queues after this mailbox's is set; unchanged if there is a desk
 abbrev pub ended_at : List (Option ℕ) → Option ℕ → ℕ → Option ℕ → List (Option ℕ)
 ended_at row None m to = slice_set row m to
 ended_at row (Some desk) m to = row
 
--- the rows after a desk that waits for no mailbox is put last in this mailbox's queue
+-- the rows after a desk that waits for no mailbox joins the end of this mailbox's queue
 abbrev pub joined_rows : Waits → ℕ → ℕ → Waits
 joined_rows w m desk = record {
   first = ended_at w.first (linked_at w.last m) m (Some desk);
@@ -89,13 +89,13 @@ left_rows w m desk = record {
   called = w.called;
 }
 
--- a desk is linked to the last desk before it, and to the first desk behind it
+-- a desk is linked to the last of the desks before it, and to the first of those behind it
 pub record Linked (w : Waits) (xs : List ℕ) (d : ℕ) (ys : List ℕ) : Type 0 where
   pub before : linked_at w.before d ≡ last_of xs
   pub behind : linked_at w.behind d ≡ first_of ys
 
--- These desks wait for room in a mailbox. The mailbox's ends are the first and the last of these desks. Each desk is
--- linked to its neighbours. A desk stands in the queue once if its row names this mailbox, and else not at all.
+-- These desks wait for room in mailbox m, in this order. The mailbox's ends are the first and the last of them. Each
+-- is linked to its neighbours. A desk stands in the queue once if its row names m, and else not at all.
 pub record IsQueue (w : Waits) (m : ℕ) (queue : List ℕ) : Type 0 where
   pub first : linked_at w.first m ≡ first_of queue
   pub last : linked_at w.last m ≡ last_of queue
@@ -103,15 +103,15 @@ pub record IsQueue (w : Waits) (m : ℕ) (queue : List ℕ) : Type 0 where
   pub once : (d : ℕ) → sum_by (one_for d) queue ≡ one_waits_at m (linked_at w.mailbox d)
   pub as_many : length queue ≡ sum_by (one_waits_at m) w.mailbox
 
--- all rows have the same length
+-- all rows but that of called desks have the same length
 pub record AreRows (w : Waits) : Type 0 where
   pub last : length w.last ≡ length w.first
   pub mailbox : length w.mailbox ≡ length w.first
   pub before : length w.before ≡ length w.first
   pub behind : length w.behind ≡ length w.first
 
--- Each mailbox has its queue, and the count that is kept with the queues is the number of all waiting desks. A desk that
--- waits for a mailbox that does not exist has no links.
+-- Each mailbox has its queue, and `count` is the number of all waiting desks. A desk that waits for a mailbox that
+-- does not exist has no links.
 pub record AreQueues (w : Waits) (count : ℕ) : Type 0 where
   pub counted : count ≡ sum_by one_waits w.mailbox
   pub rows : AreRows w

@@ -8,7 +8,7 @@ use std::sync::ledger::{Blank, Ledger, Share};
 /// Into how many parts the ledger of ranks is cut: two for each of 64 threads.
 pub const RANK_PARTS: u64 = 128;
 
-/// The ledger of the ranks of a run's threads. A part of the ledger is one rank of one thread.
+/// The ledger of the ranks of a run's threads. Each part of the ledger is one rank of one thread.
 pub struct RankLedger<J: WorkersIdentity>(PhantomData<J>);
 
 impl<J: WorkersIdentity> Ledger for RankLedger<J> {
@@ -40,7 +40,8 @@ impl<J: WorkersIdentity> Ranks<J> {
         }
     }
 
-    /// The ranks of one more thread: two parts of the ledger. The result is none if 64 threads have their ranks.
+    /// The ranks of one more thread: two parts of the ledger. The result is none if 64 threads have their ranks
+    /// already.
     pub fn of_thread(&mut self) -> Option<Share<RankLedger<J>>>
         ensures two { IfSome result (λ parts. (parts.parts ≡ 2) × (parts.amount ≡ 0)) }
         ensures one { IfSome result (λ _. self.new.threads + 1 ≡ self.old.threads) }

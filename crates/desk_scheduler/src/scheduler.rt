@@ -22,10 +22,10 @@ pub enum Next {
     Ended,
 }
 
-/// Which desks workers have, and which desks are listed. Residents' desks are numbered before programmes' desks. A
-/// listed resident's desk is taken before any programme's desk, so that a programme hears many answers in one visit. On
-/// each side, a desk that only has to hear the answer `hold` is taken after all other desks. Among the other desks the
-/// one listed last is taken first, since its data is mostly still in the cache.
+/// Which desks workers have, and which desks are listed. Residents' desks have the numbers before programmes' desks.
+/// A listed resident's desk is taken before any programme's desk, so that a programme hears many answers in one
+/// visit. On each side, a desk that only has to hear the answer `hold` is taken after all other desks. Of the other
+/// desks, the one listed last is taken first, since its data is mostly still in the cache.
 #[derive(Debug, Drop)]
 pub struct Scheduler {
     residents: Side,
@@ -71,8 +71,8 @@ impl Scheduler {
         })
     }
 
-    /// Wakes a desk. If no worker has the desk, it is listed, sooner or later by the reason `wake`. If a worker has the
-    /// desk, the desk is marked to be listed afterwards.
+    /// Wakes a desk. If no worker has the desk, it is listed, and `wake` decides whether it is taken sooner or later.
+    /// If a worker has the desk, it is marked, so that it is listed afterwards.
     #[inline(always)]
     pub fn list(&mut self, desk: u32, wake: Wake)
         ensures listed { self.new ≡ woken_by self.old (desk, wake) }
@@ -101,7 +101,7 @@ impl Scheduler {
         woken.clear();
     }
 
-    /// A worker leaves a desk. If the desk may have work again, it is listed.
+    /// Notes that a worker leaves a desk. If the desk may have work again, it is listed.
     #[inline(always)]
     pub fn let_go(&mut self, desk: u32, again: bool)
         ensures let_go { self.new ≡ at_desk (λ desks d. letting_go desks d again) self.old desk }
@@ -115,7 +115,7 @@ impl Scheduler {
         }
     }
 
-    /// A worker takes the first listed desk. Once the run has ended, the worker gets no desk.
+    /// Gives a worker the first listed desk. Once the run has ended, the worker gets no desk.
     #[inline(always)]
     pub fn next(&mut self) -> Next
         ensures next { (result, self.new) ≡ next_of self.old }
@@ -135,7 +135,7 @@ impl Scheduler {
         }
     }
 
-    /// A worker takes this desk if no worker has it and it is not listed, else the first listed desk. The answer is
+    /// Gives a worker this desk if no worker has it and it is not listed, else the first listed desk. The answer is
     /// `Nothing` only if another worker has this desk and no desk is listed.
     pub fn claim_or_next(&mut self, desk: u32) -> Next
         ensures next { (result, self.new) ≡ claim_or_next_of self.old desk }
@@ -154,7 +154,7 @@ impl Scheduler {
         self.next()
     }
 
-    // A worker takes this desk if the desk is idle. Returns whether the worker took it.
+    // Gives a worker this desk if it is idle. Returns whether the worker got it.
     fn claim(&mut self, desk: u32) -> bool
         ensures claimed { result ≡ true
             → (place_at self.old desk ≡ Idle) × (self.new ≡ at_desk in_hand self.old desk) }

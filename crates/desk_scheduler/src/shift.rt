@@ -10,8 +10,8 @@ use crate::woken::Woken;
 use crate::workers::{Crew, Holding, Looking, Resting, Workers, WorkersIdentity};
 use std::marker::Model;
 
-/// A desk that a worker has. Only a worker that looked for a desk gets a `Hand`, and the worker gives the `Hand` up
-/// when leaving the desk.
+/// A desk that a worker has. Only a worker that looked for a desk gets a `Hand`, and it gives the `Hand` back when it
+/// leaves the desk.
 #[derive(Drop)]
 pub struct Hand<J: WorkersIdentity> {
     desk: u32,
@@ -68,8 +68,8 @@ impl<J: WorkersIdentity> Shift<J> {
         Shift { scheduler, workers }
     }
 
-    /// One more worker of the crew begins, and looks for a desk. The result is none if 63 workers have begun, or if the
-    /// crew has no worker left.
+    /// Counts one more worker of the crew as begun; it looks for a desk. The result is none if 63 workers have begun,
+    /// or if the crew has no worker left.
     pub fn begins(&mut self, crew: &mut Crew<J>) -> Option<Looking<J>>
         ensures begun { IfSome result (λ _. self.new.begun ≡ self.old.begun + 1) }
         ensures crew { IfSome result (λ _. crew.new.left + 1 ≡ crew.old.left) }
@@ -94,8 +94,8 @@ impl<J: WorkersIdentity> Shift<J> {
         self.scheduler.list_all(woken);
     }
 
-    /// A worker leaves its desk, and looks for a desk again. If the desk that it left may have work again, that desk is
-    /// listed.
+    /// Notes that a worker leaves its desk and looks for a desk again. If the desk that it left may have work again,
+    /// this desk is listed.
     #[inline(always)]
     pub fn let_go(&mut self, hand: Hand<J>, again: bool) -> Looking<J>
         ensures let_go { self.new.schedule
@@ -108,7 +108,7 @@ impl<J: WorkersIdentity> Shift<J> {
         self.workers.lets_go(held)
     }
 
-    /// A worker that looks for a desk gets the first listed desk, until the run ends.
+    /// Gives a worker that looks for a desk the first listed one, until the run ends.
     #[inline(always)]
     pub fn next(&mut self, own: Looking<J>) -> TurnOf<J>
         ensures next { (next_in (λ hand. hand.desk) result, self.new.schedule)
@@ -120,8 +120,8 @@ impl<J: WorkersIdentity> Shift<J> {
         self.gets(next, own)
     }
 
-    /// A worker that looks for a desk gets this desk if it is idle, else the first listed desk. The worker gets no desk
-    /// only if another worker has this desk and no desk is listed, or if the run has ended.
+    /// Gives a worker that looks for a desk this one if it is idle, else the first listed one. The worker gets no
+    /// desk only if another worker has this desk and no desk is listed, or if the run has ended.
     pub fn claim_or_next(&mut self, own: Looking<J>, desk: u32) -> TurnOf<J>
         ensures next { (next_in (λ hand. hand.desk) result, self.new.schedule)
             ≡ claim_or_next_of self.old.schedule desk }
@@ -170,7 +170,7 @@ impl<J: WorkersIdentity> Shift<J> {
         Ok(resting)
     }
 
-    /// A worker that rested looks for a desk again.
+    /// Lets a worker that rested look for a desk again.
     pub fn wakes(&mut self, own: Resting<J>) -> Looking<J>
         ensures resting { self.new.resting + 1 ≡ self.old.resting }
         ensures looking { self.new.looking ≡ self.old.looking + 1 }
@@ -191,7 +191,7 @@ impl<J: WorkersIdentity> Shift<J> {
         self.scheduler.end();
     }
 
-    /// Whether a resting worker has a reason to wake: a desk is listed, or the run has ended.
+    /// Whether resting workers have a reason to wake: a desk is listed, or the run has ended.
     #[inline(always)]
     pub fn has_news(&self) -> bool
         ensures { result ≡ (self.now.schedule.ended || any_ready self.now.schedule) }

@@ -48,7 +48,7 @@ impl Model for Side {
 }
 
 impl Side {
-    /// A side of idle desks, of which none is listed.
+    /// The desks of a side, all idle, of which none is listed.
     pub(crate) fn idle(alloc: Global, desks: u32) -> Result<Side, AllocError>
         ensures { IfOk result (λ side. (side.places ≡ replicate desks Idle)
             × (side.ready ≡ []) × (side.behind ≡ [])) }
@@ -60,7 +60,7 @@ impl Side {
         })
     }
 
-    /// A side of listed desks. The first desk is taken first.
+    /// The desks of a side, all listed. The first desk is taken first.
     pub(crate) fn ready(alloc: Global, desks: u32) -> Result<Side, AllocError>
         ensures desks { IfOk result (λ side. length side.places ≡ desks) }
         ensures all { IfOk result (λ side. side.ready ≡ range_with_len 0 desks) }
@@ -105,7 +105,7 @@ impl Side {
         }
     }
 
-    /// A worker leaves a desk. If the desk may have work again, it is listed.
+    /// Notes that a worker leaves a desk. If the desk may have work again, it is listed.
     #[inline(always)]
     pub(crate) fn let_go(&mut self, desk: u32, again: bool)
         requires { desk < length self.old.places }
@@ -140,8 +140,7 @@ impl Side {
         self.behind.push_reserved(desk);
     }
 
-    /// A worker takes the first desk of the first tier. If this tier is empty, the worker takes the first desk of the
-    /// second tier.
+    /// Gives a worker the first desk of the first tier, or of the second tier if the first is empty.
     #[inline(always)]
     pub(crate) fn next(&mut self) -> Option<u32>
         ensures { MatchOption result ((taken self.old ≡ None) × (self.new ≡ self.old)) (λ desk.
@@ -156,7 +155,7 @@ impl Side {
         }
     }
 
-    // A worker takes the first desk of the second tier, if the first tier is empty.
+    // Gives a worker the first desk of the second tier. The first tier is empty.
     #[inline(always)]
     fn next_behind(&mut self) -> Option<u32>
         requires { self.old.ready ≡ [] }
@@ -168,7 +167,7 @@ impl Side {
         Some(desk)
     }
 
-    /// A worker takes this desk if the desk is idle. Returns whether the worker took it.
+    /// Gives a worker this desk if it is idle. Returns whether the worker got it.
     #[inline(always)]
     pub(crate) fn claim(&mut self, desk: u32) -> bool
         requires { desk < length self.old.places }

@@ -6,10 +6,11 @@ ghost use Rattle.desk_scheduler.specs.Waits.{ended_at, joined_rows, left_rows, l
 use std::alloc::{AllocError, Global};
 use std::marker::Model;
 
-/// For each mailbox the queue of desks that wait for room in it, after a full mailbox refused the message of the desk.
-/// A mailbox has links to its first and its last waiting desk. A desk has the number of its mailbox, links to the desks
-/// before and behind it, and a flag whether it was called. A desk waits for at most one mailbox. The number of waiting
-/// desks is stored, so that no queue is looked up while no desk waits. A mailbox has the number of its receiver's desk.
+/// For each mailbox, the queue of desks that wait for room in it, each after the full mailbox refused its message. A
+/// mailbox has the number of its receiver's desk, and links to the first and the last waiting desk. A desk has the
+/// number of the mailbox for which it waits, links to the desks before and behind it, and a flag whether it was
+/// called. A desk waits for at most one mailbox. The number of waiting desks is stored, so that no queue is looked up
+/// while no desk waits.
 #[derive(Debug, Drop)]
 pub struct WaitQueues {
     first: Vec<Option<u32>>,
@@ -65,8 +66,8 @@ impl WaitQueues {
         })
     }
 
-    /// A desk begins to wait for room in a mailbox, behind all desks that wait there, and leaves any other queue. If
-    /// the desk already waits there, it stays where it is in the queue.
+    /// Lets a desk wait for room in a mailbox, behind all desks that wait there, and takes it out of any other queue.
+    /// If the desk already waits there, it keeps its place.
     pub fn join(&mut self, mailbox: u32, desk: u32)
         ensures waits { desk < length self.old.mailbox →
             linked_at self.new.mailbox desk ≡ Some mailbox }
@@ -106,7 +107,7 @@ impl WaitQueues {
         }
     }
 
-    // A desk that waits for no mailbox joins the end of this mailbox's queue.
+    // Puts a desk that waits for no mailbox at the end of this mailbox's queue.
     fn join_behind(&mut self, mailbox: u32, desk: u32)
         requires within { desk < length self.old.mailbox }
         requires waits_not { linked_at self.old.mailbox desk ≡ None }
@@ -176,7 +177,7 @@ impl WaitQueues {
         self.count -= 1;
     }
 
-    /// Calls the first desk that waits for room in a mailbox, if there is one. The desk leaves the queue.
+    /// Calls the first desk that waits for room in a mailbox, if there is one, and takes it out of the queue.
     #[inline(always)]
     pub fn call_first(&mut self, mailbox: u32) -> Option<u32>
         ensures first { result ≡ linked_at self.old.first mailbox }
@@ -221,8 +222,8 @@ impl WaitQueues {
         mark(&mut self.called, desk, called);
     }
 
-    /// A worker has taken a desk, which leaves its queue. Returns whether the desk was called since a worker last took
-    /// it.
+    /// Notes that a worker has taken a desk, which so leaves its queue. Returns whether the desk was called since a
+    /// worker last took it.
     #[inline(always)]
     pub fn comes(&mut self, desk: u32) -> bool
         ensures called { result ≡ was_called self.old.called desk }
@@ -256,7 +257,8 @@ fn link(row: &mut Vec<Option<u32>>, at: u32, to: Option<u32>)
     }
 }
 
-// Sets the link of the desk `at`. If there is no such desk, sets the first or the last desk of the mailbox's queue.
+// Sets the link of the desk `at`. If there is no such desk, sets the first or the last desk of the mailbox's queue
+// instead.
 #[inline(always)]
 fn relink(
     links: &mut Vec<Option<u32>>,

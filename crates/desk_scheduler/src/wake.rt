@@ -6,6 +6,6 @@ pub enum Wake {
     /// The desk may have more to do than to hear the answer `hold`.
     #[default]
     Work,
-    /// The desk was sent the answer `hold`, after which it mostly has nothing to do.
+    /// The desk was sent the answer `hold`, after which it mostly has nothing more to do.
     Hold,
 }

@@ -5,7 +5,7 @@ use crate::wake::Wake;
 use arrayvec::ArrayVec;
 use std::marker::Model;
 
-/// How many desks can be noted at once.
+/// The greatest number of desks that can be noted at once.
 const MOST: usize = 64;
 
 /// The noted desks with the reasons for which they were woken, in the order in which they were noted. Notes are removed
@@ -25,7 +25,7 @@ impl Model for Woken {
 }
 
 impl Woken {
-    /// A value without notes.
+    /// A value in which no woken desk is noted.
     pub fn new() -> Woken
         ensures { result ≡ [] }
     {
@@ -67,7 +67,7 @@ impl Woken {
         self.desks.as_slice()
     }
 
-    /// Removes all notes.
+    /// Forgets all noted desks.
     #[inline(always)]
     pub(crate) fn clear(&mut self)
         ensures { self.new ≡ [] }

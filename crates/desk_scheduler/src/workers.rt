@@ -11,8 +11,8 @@ const MOST: u64 = 63;
 /// Into how many parts each of the three ledgers of counts is cut.
 pub const WORKER_PARTS: u64 = 64;
 
-/// The names of a run's four ledgers: three count the workers, and the fourth has the ranks of the threads. Each run has
-/// four ledgers of its own.
+/// Names the four ledgers of a run: three count the workers, and the fourth has the ranks of the threads. Each run
+/// has four ledgers of its own.
 pub trait WorkersIdentity {
     ghost holding: { ℕ };
 
@@ -59,8 +59,8 @@ impl WorkerBlanks {
         }
     }
 
-    /// Opens the four ledgers of the run that the type names, before any worker begins: the counts, what workers need to
-    /// begin, and the ranks of all threads.
+    /// Opens the four ledgers of the run that the type names, before any worker begins. The result is the workers'
+    /// counts, what workers need to begin, and the ranks of all threads.
     pub fn open<J: WorkersIdentity>(self) -> (Workers<J>, Crew<J>, Ranks<J>)
         requires holding { self.holding.name ≡ J.holding }
         requires looking { self.looking.name ≡ J.looking }
@@ -106,7 +106,7 @@ impl<J: WorkersIdentity> Ledger for RestingLedger<J> {
     ghost parts = { 64 };
 }
 
-/// The token of a worker that has a desk. The token has no bytes. Only a worker that looked for a desk and took one has
+/// The token of a worker that has a desk. It takes no bytes. Only a worker that looked for a desk and got one has
 /// this token.
 #[derive(Drop)]
 pub struct Holding<J: WorkersIdentity> {
@@ -149,9 +149,9 @@ pub struct Crew<J: WorkersIdentity> {
     ghost amounts: { (holds.amount ≡ 0) × (looks.amount ≡ 0) × (rests.amount ≡ 0) },
 }
 
-/// How many workers have begun, and how many of them look for a desk or rest. Three ledgers count the workers that have
-/// a desk, that look for a desk and that rest. Each worker's token is the worker's part of a ledger. At no time do all
-/// workers rest.
+/// How many workers have begun, and how many of them have no desk. Three ledgers count the workers that have a desk,
+/// those that look for a desk, and those that rest. Each worker's token is the worker's part of these ledgers. At no
+/// time do all workers rest.
 #[derive(Drop)]
 pub struct Workers<J: WorkersIdentity> {
     begun: u64,
@@ -192,8 +192,8 @@ impl<J: WorkersIdentity> Workers<J> {
         (workers, crew)
     }
 
-    /// One more worker of the crew begins, and looks for a desk. The result is none if 63 workers have begun, or if the
-    /// crew has no worker left.
+    /// Counts one more worker of the crew as begun; it looks for a desk. The result is none if 63 workers have begun,
+    /// or if the crew has no worker left.
     pub fn begins(&mut self, crew: &mut Crew<J>) -> Option<Looking<J>>
         ensures begun { IfSome result (λ _. self.new.begun ≡ self.old.begun + 1) }
         ensures crew { IfSome result (λ _. crew.new.left + 1 ≡ crew.old.left) }
@@ -245,7 +245,7 @@ impl<J: WorkersIdentity> Workers<J> {
         }
     }
 
-    /// A worker that looks for a desk gets a desk.
+    /// Notes that a worker that looks for a desk gets one.
     pub fn takes(&mut self, own: Looking<J>) -> Holding<J>
         ensures holding { self.new.holding.total ≡ self.old.holding.total + 1 }
         ensures looking { self.new.looking.total + 1 ≡ self.old.looking.total }
@@ -274,7 +274,7 @@ impl<J: WorkersIdentity> Workers<J> {
         }
     }
 
-    /// A worker leaves its desk, and looks for a desk again.
+    /// Notes that a worker leaves its desk, and looks for a desk again.
     pub fn lets_go(&mut self, own: Holding<J>) -> Looking<J>
         ensures holding { self.new.holding.total + 1 ≡ self.old.holding.total }
         ensures looking { self.new.looking.total ≡ self.old.looking.total + 1 }
@@ -303,7 +303,8 @@ impl<J: WorkersIdentity> Workers<J> {
         }
     }
 
-    /// A worker that looks for a desk rests, if some other worker has a desk. Otherwise the worker has to look on.
+    /// Lets a worker that looks for a desk rest, if some other worker has a desk. Otherwise the worker has to look
+    /// on.
     pub fn rests(&mut self, own: Looking<J>) -> Result<Resting<J>, Looking<J>>
         ensures rests { IfOk result (λ _. (self.new.resting.total ≡ self.old.resting.total + 1)
             × (self.new.looking.total + 1 ≡ self.old.looking.total)) }
@@ -318,7 +319,7 @@ impl<J: WorkersIdentity> Workers<J> {
         Ok(self.lies_down(own))
     }
 
-    // A worker that looks for a desk rests. Some other worker has a desk.
+    // Lets a worker that looks for a desk rest. Some other worker has a desk.
     fn lies_down(&mut self, own: Looking<J>) -> Resting<J>
         requires { self.old.without < self.old.begun }
         ensures rests { self.new.resting.total ≡ self.old.resting.total + 1 }
@@ -346,7 +347,7 @@ impl<J: WorkersIdentity> Workers<J> {
         }
     }
 
-    /// A worker that rested looks for a desk again.
+    /// Lets a worker that rested look for a desk again.
     pub fn wakes(&mut self, own: Resting<J>) -> Looking<J>
         ensures resting { self.new.resting.total + 1 ≡ self.old.resting.total }
         ensures looking { self.new.looking.total ≡ self.old.looking.total + 1 }

@@ -8,7 +8,8 @@ use Rattle.docket.specs.Lists.{is_among}
 use Rattle.docket_names.proofs.NameFacts.{same_bytes}
 use Rattle.docket.proofs.RankingFacts.{bytes_eq-swap}
 
--- how many items of two joined lists pass a test
+-- the number of items in two joined lists that pass a test is that of the first list and that of the second
+-- together
 pub count_append : (p : List ℕ → Bool) (xs ys : List (List ℕ)) → count_by p (xs ++ ys) ≡ count_by p xs + count_by p ys
 count_append p xs ys = sum_by-append (λ (x : List ℕ). if p x then 1 else 0) xs ys
 
@@ -38,7 +39,7 @@ count_none : (p : List ℕ → Bool) → ((x : List ℕ) → p x ≡ false) → 
 count_none p h [] = refl
 count_none p h (x ∷ xs) = let rest = count_none p h xs in rw (count_cons p x xs, h x, rest) refl
 
--- at most one of several different texts equals a given text
+-- in a list of texts that are all different from x, no text equals k, if k is x
 count_same : (x k : List ℕ) → x ≡ k → (ys : List (List ℕ)) → AllByRecursion (λ y. bytes_eq x y ≡ false) ys → count_by (λ y. bytes_eq y k) ys ≡ 0
 count_same x k e [] h = refl
 count_same x k e (y ∷ ys) h =
@@ -74,7 +75,7 @@ count_split p q r h (x ∷ xs) = rw (count_cons p x xs, count_cons q x xs, count
         let off : (q x || r x) ≡ false = rw (f, g) refl in
         absurd (cc (on, off))
 
--- at most as many different texts stand in a list as the list has items
+-- of different texts, at most as many stand in a list as the list has items
 pub few_among : (known texts : List (List ℕ)) → IsDistinct bytes_eq texts → count_by (is_among known) texts ≤ length known
 few_among [] texts d = let none = count_none (is_among []) (λ x. refl) texts in omega (arith, none)
 few_among (k ∷ ks) texts d =
@@ -83,7 +84,7 @@ few_among (k ∷ ks) texts d =
     let rest = few_among ks texts d in
     omega (arith, split, one, rest)
 
--- a test that one of two tests passes
+-- if the second of two tests is passed, one of the two is
 pub or_right : (a b : Bool) → b ≡ true → (a || b) ≡ true
 or_right true b e = refl
 or_right false b e = e

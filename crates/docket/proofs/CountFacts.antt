@@ -13,7 +13,8 @@ use Rattle.docket.specs.declared.fault.DocketFault.{DocketFault}
 use Rattle.docket.specs.declared.records_fault.RecordsFault.TheVariants.{Docket, TooManyListed}
 use Rattle.docket.proofs.SoundFacts.{both_none}
 
--- how many names the rank lists have after one more record
+-- after one more record the rank lists have as many names more as this record lists, if it is a
+-- list
 pub all_listed-if : (rows : List Fields) (row : Fields)
     → all_listed (rows ++ row ∷ []) ≡ (if is_list_row row then all_listed rows + names_listed row else all_listed rows)
 unfolding all_listed
@@ -28,18 +29,18 @@ pub none_listed : all_listed [] ≡ 0
 unfolding all_listed
 none_listed = refl
 
--- the test of the number of listed names, in the terms of the call that makes this test
+-- the test of the number of listed names, said of the count that its call keeps
 pub listed_asked : (lim : Limits) (rows : List Fields) (row : Fields) (listed n : ℕ) → listed ≡ all_listed (rows ++ row ∷ []) → n ≡ next_place rows
     → listed_fault lim rows row ≡ (if is_above (most_listed lim) listed then Some (TooManyListed n) else None)
 unfolding listed_fault
 listed_asked lim rows row listed n e f = rw (e, f) refl
 
--- if a fault is none as another kind of fault, it is none
+-- if a docket's fault, told as a fault of the records, is none, there is no docket's fault
 pub unmapped : (o : Option DocketFault) → option_map Docket o ≡ None → o ≡ None
 unmapped None e = refl
 unmapped (Some f) e = absurd (cc e)
 
--- if all records pass both tests, they pass the first
+-- if no record has a fault in the first pass's two tests, none has a fault in the first of them
 pub reading_sound : (lim : Limits) (before rows : List Fields) → first_from (first_pass_fault lim) before rows ≡ None → first_from (reading_fault lim) before rows ≡ None
 unfolding first_from
 reading_sound lim before [] h = refl

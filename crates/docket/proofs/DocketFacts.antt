@@ -72,7 +72,8 @@ pub sheet_free : (rows : List Fields) → has_sheet rows ≡ false → sheet_fau
 unfolding sheet_fault
 sheet_free rows e = rw e refl
 
--- the first fault after the first pass: of the lists, then of the pairs, then of the sheet, then of the events
+-- the first fault after the first pass is that of the lists, else of the pairs, else of the sheet, else of the
+-- events
 pub later_is : (lim : Limits) (rows : List Fields) → later_fault lim rows
     ≡ option_or (option_or (first_from (ranking_fault rows) [] rows) (pairs_fault lim rows)) (option_or (sheet_fault rows) (first_from (event_fault rows) [] rows))
 unfolding later_fault
@@ -83,12 +84,12 @@ later_is lim rows = by (first_from (ranking_fault rows) [] rows)
     by None = refl
     by (Some f) = refl
 
--- the name of a programme, as the docket returns it
+-- the name that a docket's contents give programme p is the item at place p of the programmes
 pub programme_name-is : (d : Contents) (p : ℕ) (name : List ℕ) → slice_get d.programmes p ≡ Some name → programme_name d p ≡ name
 unfolding programme_name
 programme_name-is d p name h = get_or_from_slice_get d.programmes p name [] h
 
--- the name of a resident, as the docket returns it
+-- the name that a docket's contents give resident r is the item at place r of the residents
 pub resident_name-is : (d : Contents) (r : ℕ) (name : List ℕ) → slice_get d.residents r ≡ Some name → resident_name d r ≡ name
 unfolding resident_name
 resident_name-is d r name h = get_or_from_slice_get d.residents r name [] h

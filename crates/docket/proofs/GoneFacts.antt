@@ -24,7 +24,7 @@ use Rattle.docket.proofs.SoundFacts.{both_none, unless_none}
 use Rattle.docket.proofs.RankingFacts.{sound_row, off, bytes_eq-swap, lists_of-other, distinct_programmes, distinct_residents}
 use Rattle.docket.proofs.WithdrawalFacts.{withdrawn_of-other}
 
--- the flags of withdrawn members, after one more withdrawal
+-- after one more W row of a side, the flag of its member is set and the others are as before
 pub withdrawn_of-owner : (side : List ℕ) (names : List (List ℕ)) (before : List Fields) (row : Fields) (i : ℕ) → distinct names ≡ true
     → number_in names (field row 2) ≡ Some i → is_row_of withdrawal_kind side row ≡ true
     → withdrawn_of side names (before ++ row ∷ []) ≡ slice_set (withdrawn_of side names before) i true
@@ -52,7 +52,7 @@ withdrawn_of-owner side names before row i d at on =
     own : flag_after (field row 2) ≡ true
     own = rw (list_any-append (is_withdrawal_of side (field row 2)) before (row ∷ []), on, bytes_eq-same (field row 2)) (right (flag_before (field row 2)))
 
--- the flag of a member says whether some W row withdraws this member
+-- the flag of the member at place i is set exactly if some W row of the side has this member's name
 pub withdrawn_at : (side : List ℕ) (names : List (List ℕ)) (before : List Fields) (name : List ℕ) (i : ℕ) → number_in names name ≡ Some i
     → slice_index_or (withdrawn_of side names before) i false ≡ list_any (is_withdrawal_of side name) before
 unfolding withdrawn_of
@@ -90,7 +90,8 @@ pub withdrawal_unnamed : (rows before : List Fields) (row : Fields) (names : Lis
 unfolding ranking_fault
 withdrawal_unnamed rows before row names n kind on at place = rw (kind, on, at, place) refl
 
--- what the builder has after a W row, if the builder's flags are those of the rows read so far
+-- the builder has what it must after a W row, if it sets the flag of the row's member and changes
+-- nothing else
 ranked_gone : (b e : Draft) (rows : List Fields) (k : ℕ) → k < length rows → kind_of (row_at rows k) ≡ withdrawal_kind → IsRanked b rows (take k rows)
     → e.quotas ≡ b.quotas → e.programme_lists ≡ b.programme_lists → e.resident_lists ≡ b.resident_lists
     → e.programmes_withdrawn ≡ withdrawn_of (codes "P") (programmes_of rows) (take k rows ++ row_at rows k ∷ [])

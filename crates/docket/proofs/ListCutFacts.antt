@@ -46,7 +46,7 @@ programme_among rows text e = list_any-append (bytes_eq text) (programmes_of row
 resident_among : (rows : List Fields) (text : List ℕ) → is_declared (residents_of rows) text ≡ true → is_among (members_of rows) text ≡ true
 resident_among rows text e = list_any-append (bytes_eq text) (programmes_of rows) (residents_of rows) ∙ or_right (list_any (bytes_eq text) (programmes_of rows)) _ (sym (is_declared-any (residents_of rows) text) ∙ e)
 
--- the names of two lists are members'
+-- if the names of two lists are each a member's, so are the names of both together
 known_both : (rows : List Fields) (xs ys : List (List ℕ)) → AreKnownNames rows xs → AreKnownNames rows ys → AreKnownNames rows (xs ++ ys)
 known_both rows xs ys h i = list_all-append (is_among (members_of rows)) xs ys ∙ and_from _ _ h i
 
@@ -75,7 +75,7 @@ too_many texts rows names brought few distinct over counted known =
     let r = few.residents in
     omega (arith, wider, most, size, p, r, over, counted)
 
--- the owner of an R row is a member
+-- the owner of an R row is a declared resident, if the second pass finds no fault in the row
 owner_among : (rows done rest : List Fields) (row : Fields) → rows ≡ done ++ row ∷ rest → kind_of row ≡ RESIDENT_LIST → is_declared (residents_of rows) (field row 1) ≡ true
 owner_among rows done rest row is kind = by (number_in (residents_of rows) (field row 1)) refl
   where
@@ -110,7 +110,7 @@ row_known rows done rest row (Withdrawal Residents) owner listed is none shown =
     let declared : is_declared (residents_of rows) (field row 2) ≡ true = rw shown.1 at (unless_none (is_declared (names_on (field row 1) rows) (field row 2)) (UnknownName (next_place done)) own) in
     and_from _ _ (resident_among rows owner (ap (is_declared (residents_of rows)) shown.2 ∙ declared)) (ap (list_all (is_among (members_of rows))) shown.3)
 
--- what the first pass found
+-- the first pass found no fault in the rows, and they are at most MAX_RECORDS
 pub record IsSound (rows : List Fields) : Type 0 where
   pub none : first_from (reading_fault widest) [] rows ≡ None
   pub few : length rows ≤ MAX_RECORDS

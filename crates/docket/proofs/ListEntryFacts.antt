@@ -21,7 +21,7 @@ use Rattle.docket.proofs.SoundFacts.{both_none, unless_none}
 use Rattle.docket.proofs.ListLeftFacts.{IsAmid, amid}
 use Rattle.docket.proofs.ListRecordFacts.{list_entry_in, gone_entry_in, side_is}
 
--- the kinds of a row of the second pass
+-- a row of the second pass is a P, an R or a W row
 pub ranking_kind : (row : Fields) → is_ranking_row row ≡ true → (kind_of row ≡ PROGRAMME_LIST) ⊎ ((kind_of row ≡ RESIDENT_LIST) ⊎ (kind_of row ≡ withdrawal_kind))
 ranking_kind row h = by (is_kind PROGRAMME_LIST row) refl (is_kind RESIDENT_LIST row) refl (is_kind withdrawal_kind row) refl h
   where
@@ -32,7 +32,7 @@ ranking_kind row h = by (is_kind PROGRAMME_LIST row) refl (is_kind RESIDENT_LIST
     by false e false f true g h = inr (inr (search (rules, g)))
     by false e false f false g h = absurd (cc h)
 
--- the side of a withdrawal that the first pass accepted
+-- the text has a side: it is the word of programmes or of residents
 pub record HasSide (text : List ℕ) : Type 0 where
   pub side : Side
   pub is : side_of text ≡ Some side

@@ -18,7 +18,7 @@ use Rattle.docket.proofs.AmongFacts.{or_left, or_right, count_append, count_all,
 use Rattle.docket.proofs.ListCountFacts.{have_starts}
 use Rattle.docket.proofs.ListWalkFacts.{within_or_over, all_wider, number_text}
 
--- the entries of all records, after one more record
+-- the entries of all records after one more record are those before and this record's
 entries_from-push : (n : ℕ) (rows : List Fields) (row : Fields) → entries_from n (rows ++ row ∷ []) ≡ entries_from n rows ++ entry_in (n + length rows + 1) row
 unfolding entries_from
 entries_from-push n [] row = let same : n + 1 ≡ n + 0 + 1 = omega arith in append-nil (entry_in (n + 1) row) ∙ ap (λ (k : ℕ). entry_in k row) same
@@ -30,7 +30,7 @@ entries_from-push n (r ∷ rows) row =
 pub entries_push : (rows : List Fields) (row : Fields) → entries_of (rows ++ row ∷ []) ≡ entries_of rows ++ entry_in (next_place rows) row
 entries_push rows row = let same : 0 + length rows + 1 ≡ next_place rows = omega arith in entries_from-push 0 rows row ∙ ap (λ (k : ℕ). entries_of rows ++ entry_in k row) same
 
--- a record of another kind has no entry
+-- a record that is neither a list nor a withdrawal has no entry
 pub no_entry : (n : ℕ) (row : Fields) → is_ranking_row row ≡ false → entry_in n row ≡ []
 unfolding entry_in
 no_entry n row e =
@@ -38,7 +38,7 @@ no_entry n row e =
     let second = or_parts (is_kind PROGRAMME_LIST row) (is_kind RESIDENT_LIST row) first.0 in
     rw (second.0, second.1, first.1) refl
 
--- the entries say the same by more texts
+-- the entries tell the same texts by their numbers, after texts were added
 pub within_grown : (texts more : Fields) (entries : List KeptEntry) → StartsWith texts more → All (IsWithin texts) entries → All (IsWithin more) entries
 within_grown texts more entries s h = All-weaker (IsWithin texts) (IsWithin more) one entries h
   where
@@ -54,7 +54,7 @@ named_grown texts more (e ∷ entries) s h =
     let tail = named_grown texts more entries s (All-tail (IsWithin texts) e entries h) in
     λ i. record { place = e.place; kind = e.kind; owner = owner i; listed = listed i } ∷ tail i
 
--- at least as many of more texts pass a test that is wider
+-- if n texts pass a test, at least n pass a wider test after texts were added
 pub count_grown : (p q : List ℕ → Bool) → ((t : List ℕ) → p t ≡ true → q t ≡ true) → (texts more : Fields) (n : ℕ) → StartsWith texts more → n ≤ count_by p texts → n ≤ count_by q more
 count_grown p q h texts more n s le =
     let whole : more ≡ texts ++ drop (length texts) more = sym (take-append-drop (length texts) more) ∙ ap (λ (l : List (List ℕ)). l ++ drop (length texts) more) s in
@@ -62,7 +62,7 @@ count_grown p q h texts more n s le =
     let wide = count_wider p q h texts in
     rw whole (omega (arith, split, wide, le))
 
--- the first entries of some are the first of more
+-- entries that are the first of some stay the first after more entries
 pub front_more : (kept all more : List ListEntry) → AreFront kept all → AreFront kept (all ++ more)
 unfolding AreFront
 front_more [] all more h = tt
@@ -70,19 +70,19 @@ front_more (e ∷ kept) [] more h = absurd h
 front_more (e ∷ []) (a ∷ all) more h = h
 front_more (e ∷ f ∷ kept) (a ∷ all) more h = (h.0, front_more (f ∷ kept) all more h.1)
 
--- all entries, and a cut entry after them
+-- all entries with a last one that was cut are the first of all entries with this one whole
 pub front_cut : (all : List ListEntry) (e a : ListEntry) → IsCutFrom a e → AreFront (all ++ e ∷ []) (all ++ a ∷ [])
 unfolding AreFront
 front_cut [] e a h = h
 front_cut (x ∷ []) e a h = (refl, h)
 front_cut (x ∷ y ∷ all) e a h = (refl, front_cut (y ∷ all) e a h)
 
--- before the first record
+-- the store of lists before the first record is empty
 pub lists_none : (texts : Fields) → AreLists texts (record { entries = []; brought = 0 }) []
 unfolding AreFront entries_from
 lists_none texts = record { within = All-nil (IsWithin texts); whole = λ le. refl; front = tt; counted = omega arith }
 
--- after more texts were added
+-- the store of lists is right after more texts were added, if the texts start with the old ones
 pub lists_grow : (texts more : Fields) (lists : KeptLists) (rows : List Fields) → StartsWith texts more → AreLists texts lists rows → AreLists more lists rows
 lists_grow texts more lists rows s h =
     let same = named_grown texts more lists.entries s h.within in
@@ -93,13 +93,14 @@ lists_grow texts more lists rows s h =
       counted = rw same (count_grown (is_among (names_in (map (named texts) lists.entries))) (is_among (names_in (map (named texts) lists.entries))) (λ t e. e) texts more lists.brought s h.counted);
     }
 
--- after a record that is neither a list nor a withdrawal
+-- the store of lists stays right after a record that is neither a list nor a withdrawal
 pub lists_other : (texts : Fields) (lists : KeptLists) (rows : List Fields) (row : Fields) → is_ranking_row row ≡ false → AreLists texts lists rows → AreLists texts lists (rows ++ row ∷ [])
 lists_other texts lists rows row e h =
     let same : entries_of (rows ++ row ∷ []) ≡ entries_of rows = entries_push rows row ∙ ap (λ (l : List ListEntry). entries_of rows ++ l) (no_entry (next_place rows) row e) ∙ append-nil (entries_of rows) in
     record { within = h.within; whole = λ le. h.whole le ∙ sym same; front = rw same h.front; counted = h.counted }
 
--- after a record of which nothing is kept
+-- the store of lists stays right after a record of which nothing is kept, as too many names came
+-- before
 lists_past : (texts : Fields) (lists : KeptLists) (rows : List Fields) (row : Fields) → MOST_NAMES < lists.brought → AreLists texts lists rows → AreLists texts lists (rows ++ row ∷ [])
 lists_past texts lists rows row over h = record {
   within = h.within;
@@ -108,11 +109,11 @@ lists_past texts lists rows row over h = record {
   counted = h.counted;
 }
 
--- the names in the entries, with one more entry
+-- the names in the entries after one more entry are those before, then those of this entry
 pub names_push : (entries : List ListEntry) (e : ListEntry) → names_in (entries ++ e ∷ []) ≡ names_in entries ++ entry_names e
 names_push entries e = flat_map-append entry_names entries (e ∷ []) ∙ ap (λ (l : List (List ℕ)). names_in entries ++ l) (append-nil (entry_names e))
 
--- after a record whose entry is kept, whole or cut
+-- the store of lists is right after a record whose entry is kept, whole or cut
 lists_kept : (texts more : Fields) (old new : KeptLists) (rows : List Fields) (row : Fields) (entry : ListEntry) → old.brought ≤ MOST_NAMES → HasEntry texts more old new entry
     → entry_in (next_place rows) row ≡ entry ∷ [] → AreLists texts old rows → AreLists more new (rows ++ row ∷ [])
 lists_kept texts more old new rows row entry few k is h =
@@ -142,7 +143,8 @@ lists_kept texts more old new rows row entry few k is h =
         let total = ap (count_by (is_among (names ++ own))) more_are in
         omega (arith, total, split, wide, extra, size, sized, sum, le)
 
--- after the record of an entry
+-- the store of lists is right after the record of an entry, which is kept unless too many names
+-- came before
 pub lists_added : (texts more : Fields) (old new : KeptLists) (rows : List Fields) (row : Fields) (entry : ListEntry) → AddsEntry texts more old new entry → StartsWith texts more
     → entry_in (next_place rows) row ≡ entry ∷ [] → AreLists texts old rows → AreLists more new (rows ++ row ∷ [])
 lists_added texts more old new rows row entry a s is h = by (within_or_over old.brought MOST_NAMES)

@@ -25,7 +25,8 @@ pub record FirstLeft (rows done : List Fields) (row : Fields) (left : List ListE
   pub shown : ShowsRow rows row entry.kind entry.owner entry.listed
   pub after : first_from (ranking_fault rows) [] (done ++ row ∷ []) ≡ None → After more
 
--- the same where the row is a list or a withdrawal and no row before it has a fault; any other row needs no entry
+-- if the row is a list or a withdrawal and no row before has a fault, the first entry left is the row's, and the
+-- others have the property `After`; any other row has no entry
 abbrev pub AtRow : Bool → List Fields → List Fields → Fields → List ListEntry → (List ListEntry → Type 0) → Type 0
 AtRow true rows done row left After = first_from (ranking_fault rows) [] done ≡ None → FirstLeft rows done row left After
 AtRow false rows done row left After = After left
@@ -35,7 +36,7 @@ unfoldable pub AreLeft : List Fields → List Fields → List Fields → List Li
 AreLeft rows done [] left = left ≡ []
 AreLeft rows done (row ∷ rest) left = AtRow (is_ranking_row row) rows done row left (λ more. AreLeft rows (done ++ row ∷ []) rest more)
 
--- a row within all rows
+-- the row stands in all rows, directly after those that are done
 pub record IsAmid (rows done : List Fields) (row : Fields) : Type 0 where
   pub there : length done < length rows
   pub before : take (length done) rows ≡ done
@@ -55,7 +56,7 @@ amid rows done rest row is =
     at [] = refl
     at (d ∷ done) = at done
 
--- a row that is neither a list nor a withdrawal
+-- a row that is neither a list nor a withdrawal is neither a P row nor an R row nor a W row
 other_parts : (row : Fields) → is_ranking_row row ≡ false → (is_kind PROGRAMME_LIST row ≡ false) × (is_kind RESIDENT_LIST row ≡ false) × (is_kind withdrawal_kind row ≡ false)
 other_parts row e =
     let first = or_parts (is_kind PROGRAMME_LIST row || is_kind RESIDENT_LIST row) (is_kind withdrawal_kind row) e in
@@ -73,7 +74,7 @@ none_past rows done row e none =
     let parts = other_parts row e in
     first_from-push (ranking_fault rows) done row none (ranking_fault-other rows done row parts.0 parts.1 parts.2)
 
--- the next list or withdrawal, where its entry is the first of those left
+-- the next list or withdrawal stands after the rows that are done, and its entry is the first of those left
 pub record NextLeft (b : Draft) (rows : List Fields) (entry : ListEntry) (more : List ListEntry) : Type 0 where
   pub done : List Fields
   pub row : Fields

@@ -59,11 +59,11 @@ next_at texts programmes residents builder rows entry more known h =
           };
     }
 
--- after the last entry
+-- after the last entry the second pass has taken all rows and found no fault
 pub all_done : (texts : Fields) (rows : List Fields) (builder : Draft) → IsAt texts rows builder [] → IsRanked builder rows rows × (first_from (ranking_fault rows) [] rows ≡ None)
 all_done texts rows builder h = none_left builder rows h.done h.rest h.all h.ranked h.none h.enough
 
--- entry j, and the entries after it
+-- there is an entry at place j, and the entries from place j on are it and those after it
 pub record HasSplit (entries : List KeptEntry) (j : ℕ) : Type 0 where
   pub entry : KeptEntry
   pub at : slice_get entries j ≡ Some entry

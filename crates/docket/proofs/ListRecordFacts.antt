@@ -14,13 +14,13 @@ use Rattle.docket_names.specs.Words.{is_name}
 use Rattle.docket_names.proofs.NameFacts.{same_bytes}
 use Rattle.docket.proofs.FieldFacts.{field-get_or}
 
--- the entry of a rank list
+-- the entry in a P or R row is that of a rank list of its side
 pub list_entry_in : (n m : ℕ) (side : Side) (row : Fields) → kind_of row ≡ list_letter side → m ≡ n → entry_in n row ≡ list_entry m side row ∷ []
 unfolding entry_in
 list_entry_in n m Programmes row kind place = rw (kind, place) refl
 list_entry_in n m Residents row kind place = rw (kind, place) refl
 
--- the entry of a withdrawal
+-- the entry in a W row is that of a withdrawal on the side that it names
 pub gone_entry_in : (n m : ℕ) (side : Side) (row : Fields) → kind_of row ≡ withdrawal_kind → side_of (field row 1) ≡ Some side → m ≡ n → entry_in n row ≡ gone_entry m side row ∷ []
 unfolding entry_in
 gone_entry_in n m side row kind at place = rw (kind, at, place) refl
@@ -31,7 +31,7 @@ named_parts [] le = absurd (omega (arith, le))
 named_parts (x ∷ []) le = absurd (omega (arith, le))
 named_parts (x ∷ y ∷ row) le = ap (λ (t : List ℕ). is_name t && list_all is_name row) (sym (field-get_or (x ∷ y ∷ row) 1))
 
--- the fault of a rank list, from the test of its names
+-- the fault that a P or R row has by itself is that not all its names are names, or none
 pub list_tested : (n : ℕ) (row : Fields) (named : Bool) → 2 ≤ length row → named ≡ (is_name (field row 1) && list_all is_name (drop 2 row)) → list_row_fault n row ≡ unless named (BadName n)
 list_tested n row named le is =
     let wide : nat_lt 1 (length row) ≡ true = search (rules, le) in
@@ -59,7 +59,8 @@ no_side text h = by (bytes_eq text (codes "P")) refl (bytes_eq text (codes "R"))
     by false e true f h = absurd (cc h)
     by false e false f h = rw (e, f) refl
 
--- the fault of a withdrawal, from the tests of its side and of its name
+-- the fault that a W row of three fields with a known side has by itself is that its name is no
+-- name, or none
 pub gone_tested : (n : ℕ) (row : Fields) (side : Side) (named : Bool) → length row ≡ 3 → side_of (field row 1) ≡ Some side → named ≡ is_name (field row 2)
     → withdrawal_row_fault n row ≡ unless named (BadName n)
 gone_tested n row side named size at is = let sided = (side_is (field row 1) side at).1 in rw (size, sided, is) refl

@@ -10,11 +10,12 @@ use Rattle.docket.proofs.ListFacts.{no_entry}
 use Rattle.docket.proofs.ListEntryFacts.{has_shown}
 use Rattle.docket.proofs.ListLeftFacts.{AreLeft, AtRow}
 
--- how many rows are done, after one more
+-- one row more is done
 pub done_more : (done : List Fields) (row : Fields) → length (done ++ row ∷ []) ≡ length done + 1
 done_more done row = length-append done (row ∷ [])
 
--- all entries of the rows that follow are enough for these rows
+-- all entries of the rows that follow are enough for these rows, if the first pass accepted all
+-- rows
 pub left_whole : (rows done rest : List Fields) → first_from (reading_fault widest) [] rows ≡ None → length rows ≤ MAX_RECORDS → rows ≡ done ++ rest
     → AreLeft rows done rest (entries_from (length done) rest)
 unfolding AreLeft entries_from

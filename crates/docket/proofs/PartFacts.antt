@@ -112,7 +112,7 @@ none_from : (f : List Fields → Fields → Option RecordsFault) (kept : List Fi
 unfolding first_from
 none_from f kept = refl
 
--- before the first record of a file
+-- before the first record of a file is read, the reading goes on with all of its records left
 pub goes_start : (part : Option Part) (lim : Limits) (all : Option (List Fields)) (kept : List Fields) (reading : Reading) → IsPassed reading kept → Goes part lim all all kept reading
 goes_start part lim all kept reading p = record {
   rows = [];
@@ -121,7 +121,7 @@ goes_start part lim all kept reading p = record {
   split = split_start all;
 }
 
--- after one more record
+-- if the next record of a file was read without a fault, the file's reading goes on with one more record
 pub goes_more : (part : Option Part) (lim : Limits) (all left after : Option (List Fields)) (kept : List Fields) (row : Fields) (old new : Reading)
     → (o : Goes part lim all left kept old) → GivesRow left after true row → IsReading new ((kept ++ o.rows) ++ row ∷ []) → part_fault part lim (kept ++ o.rows) row ≡ None
     → Goes part lim all after kept new
@@ -132,7 +132,7 @@ goes_more part lim all left after kept row old new o gives is none = record {
   split = split_more all o.rows left after row o.split gives;
 }
 
--- at the end of the file's records
+-- at the end of a file's records none of them had a fault
 pub goes_end : (part : Option Part) (lim : Limits) (all left after : Option (List Fields)) (kept : List Fields) (row : Fields) (old reading : Reading)
     → IsPassed old kept → old.declared.builder.limits ≡ lim → reading.declared.builder.limits ≡ lim → reading.records ≤ most_records lim
     → Goes part lim all left kept reading → GivesRow left after false row → GoesOn part kept all reading
@@ -149,18 +149,18 @@ goes_end part lim all left after kept row old reading p was same few o gives =
       };
     }
 
--- before any record
+-- before the first file no records are read and none has a fault
 pub passed_empty : (reading : Reading) → IsReading reading [] → IsPassed reading []
 passed_empty reading is = record { reading_is = is; sound = first_from-none (first_pass_fault reading.declared.builder.limits); few = omega arith }
 
--- the files so far, once one more file was read
+-- after one more file without a fault, the records of the files so far are those before and the file's
 pub passed_on : (part : Option Part) (kept rows : List Fields) (reading : Reading) → GoesOn part kept (Some rows) reading → IsPassed reading (kept ++ rows)
 passed_on part kept rows reading g = rw g.all_are g.passed
 
 pub own_on : (part : Option Part) (lim : Limits) (kept rows : List Fields) (reading : Reading) → reading.declared.builder.limits ≡ lim → GoesOn part kept (Some rows) reading → first_from (part_fault part lim) kept rows ≡ None
 own_on part lim kept rows reading same g = rw (← same, g.all_are) g.own
 
--- one stream, whose records may have any kind
+-- after one stream whose records may be of any kind, its records were read without a fault
 pub one_passed : (all : Option (List Fields)) (old new : Reading) → IsReading old [] → ((kept : List Fields) → IsPassed old kept → GoesOn None kept all new) → HasPassed all new
 one_passed all old new is on = let g = on [] (passed_empty old is) in record { rows = g.rows; all_are = g.all_are; passed = g.passed }
 
@@ -174,27 +174,28 @@ one_told all lim old e is on = by all (on [] (passed_empty old is))
     by None (inr h) = inr (h.0, rw (← one_stream lim [] h.0) h.1)
     by (Some rows) (inr h) = inr (rw (← one_stream lim [] rows) h)
 
--- the next record's number
+-- the number of the next record is one more than the number of those that were read
 pub next_is : (reading : Reading) (rows : List Fields) (place : ℕ) → IsReading reading rows → place ≡ reading.records + 1 → place ≡ next_place rows
 next_is reading rows place is at = let count = is.records in omega (arith, at, count)
 
 pub few_rows : (reading : Reading) (rows : List Fields) → reading.records < most_records reading.declared.builder.limits → IsReading reading rows → length rows < most_records reading.declared.builder.limits
 few_rows reading rows few is = rw is.records at few
 
--- a record of another part is refused at once
+-- a record that belongs to another part of the docket than the file's is refused at once
 pub part_refused : (part : Option Part) (reading : Reading) (rows : List Fields) (row : Fields) (place : ℕ) → reading.records < most_records reading.declared.builder.limits → IsReading reading rows
     → place ≡ reading.records + 1 → is_elsewhere part row ≡ true → Stops (part_fault part reading.declared.builder.limits rows row) (AnotherPart place)
 part_refused part reading rows row place few is at other =
     inr (part_few part reading.declared.builder.limits rows row (few_rows reading rows few is) ∙ rw (other, next_is reading rows place is at) refl)
 
--- a record of the file's part that the first pass refuses
+-- a record of the file's part is refused with the fault that the first pass finds in it
 pub part_stopped : (part : Option Part) (reading : Reading) (rows : List Fields) (row : Fields) (e : DocketFault) → reading.records < most_records reading.declared.builder.limits → IsReading reading rows
     → is_elsewhere part row ≡ false → Refuses (reading_fault reading.declared.builder.limits rows row) e → Stops (part_fault part reading.declared.builder.limits rows row) (Docket e)
 part_stopped part reading rows row e few is own (inl memory) = inl (ap Docket memory)
 part_stopped part reading rows row e few is own (inr here) =
     inr (part_few part reading.declared.builder.limits rows row (few_rows reading rows few is) ∙ rw (own, here) refl)
 
--- a record of the file's part that the first pass accepts: the test of the number of listed names is left
+-- a record of the file's part that the first pass accepts has only the test of the number of listed names
+-- left
 pub part_passed : (part : Option Part) (reading new : Reading) (rows : List Fields) (row : Fields) (place : ℕ) → reading.records < most_records reading.declared.builder.limits → IsReading reading rows
     → place ≡ reading.records + 1 → is_elsewhere part row ≡ false → reading_fault reading.declared.builder.limits rows row ≡ None
     → new.declared.builder.limits ≡ reading.declared.builder.limits → IsReading new (rows ++ row ∷ [])
@@ -203,7 +204,7 @@ part_passed part reading new rows row place few is at own none same next =
     rw (same, part_few part reading.declared.builder.limits rows row (few_rows reading rows few is), own, none)
     (listed_asked reading.declared.builder.limits rows row new.declared.listed place next.declared.listed (next_is reading rows place is at))
 
--- the fault of one record too many
+-- one record more than the limit allows is refused, with the greatest number of records
 pub one_too_many : (part : Option Part) (lim : Limits) (before : List Fields) (row : Fields) (most : ℕ) → length before ≡ most_records lim → most ≡ most_records lim
     → Stops (part_fault part lim before row) (Docket (TooManyRecords (most + 1)))
 one_too_many part lim before row most many is = inr (part_many part lim before row many ∙ ap (λ n. Some (Docket (TooManyRecords (n + 1)))) (sym is))
@@ -222,7 +223,7 @@ one_refused all lim old (Err e) is on = one_told all lim old e is on
 pub within : (reading : Reading) (rows : List Fields) → IsPassed reading rows → reading.records ≤ most_records reading.declared.builder.limits
 within reading rows p = let count = p.reading_is.records in let few = p.few in omega (arith, count, few)
 
--- the fault of a file, told with its file
+-- the fault of a file's record is told with the file and with its number in the file
 pub file_told : (file : Part) (lim : Limits) (kept rows : List Fields) (old : Reading) (before : ℕ) (e : RecordsFault) → IsPassed old kept → before ≡ old.records
     → IsSourceFault e ⊎ Explains (Some rows) (first_from (part_fault (Some file) lim) kept) e → Tells (file_fault file lim kept rows) (there file before e)
 file_told file lim kept rows old before e p is (inl read) = inl (inr (read.0, rw read.1 refl))
@@ -249,7 +250,7 @@ files_none a b c x y z = rw (x, y, z) refl
 pub all_passed : (rows : List Fields) (reading : Reading) → IsPassed reading rows → HasPassed (Some rows) reading
 all_passed rows reading p = record { rows = rows; all_are = refl; passed = p }
 
--- a fault of a later pass, with its file
+-- a fault that a later pass finds is told with the file in which its record stands
 pub later_told : (lim : Limits) (d s j : List ℕ) (ends : Ends) (r : Reading) (f : DocketFault) → r.declared.builder.limits ≡ lim → files_fault lim d s j ≡ None → AreEnds d s ends
     → (h : HasPassed (Some (rows_of_all d s j)) r) → ((rows : List Fields) → IsPassed r rows → Refuses (later_fault r.declared.builder.limits rows) f)
     → Tells (fault_of_files lim d s j) (located ends.docket ends.sheet f)
@@ -261,7 +262,7 @@ later_told lim d s j ends r f same own at h answers = by (answers h.rows h.passe
         let here : later_fault lim (rows_of_all d s j) ≡ Some f = rw (h.all_are, ← same) is in
         inr (rw (own, here, at.docket_end, at.sheet_end) refl)
 
--- files without a fault
+-- if no pass finds a fault, what was read is the docket in the files
 pub later_read : (lim : Limits) (d s j : List ℕ) (r : Reading) (c : Contents) → r.declared.builder.limits ≡ lim → files_fault lim d s j ≡ None
     → (h : HasPassed (Some (rows_of_all d s j)) r) → ((rows : List Fields) → IsPassed r rows → later_fault r.declared.builder.limits rows ≡ None)
     → ((rows : List Fields) → IsPassed r rows → c ≡ contents_of rows) → IsInFiles lim d s j c
@@ -274,12 +275,12 @@ later_read lim d s j r c same own h none is =
       docket_is = rw h.all_are (is h.rows h.passed);
     }
 
--- the lists of the files' records
+-- the lists that were kept are those of the files' records
 pub later_lists : (d s j : List ℕ) (keeps : Bool) (r : Reading) (w : Option KeptLists) → (h : HasPassed (Some (rows_of_all d s j)) r)
     → ((rows : List Fields) → IsPassed r rows → w ≡ lists_if keeps rows) → w ≡ lists_if keeps (rows_of_all d s j)
 later_lists d s j keeps r w h lists = rw h.all_are (lists h.rows h.passed)
 
--- the docket of the files, with its lists
+-- the lists that were kept are written in the files of the docket, with their names
 pub lists_in_files : (lim : Limits) (d s j : List ℕ) (c : Contents) (kept : Option KeptLists) (w : Written) (given : List (Option (List ℕ))) → kept ≡ Some (w, given) → IsInFiles lim d s j c
     → kept ≡ lists_if true (rows_of_all d s j) → IsInFilesWithLists lim d s j c w
 lists_in_files lim d s j c kept w given is h lists = record {
@@ -288,7 +289,8 @@ lists_in_files lim d s j c kept w given is h lists = record {
   read = lists_read lim None c kept w given is (record { rows = rows_of_all d s j; all = tt; faultless = h.sound; docket_is = h.docket_is; lists_are = lists });
 }
 
--- and the programmes' lists, which name residents
+-- the programmes' lists that were kept are those of the docket in the files, and have only numbers of
+-- residents
 pub given_in_files : (lim : Limits) (d s j : List ℕ) (c : Contents) (kept : Option KeptLists) (w : Written) (given : List (Option (List ℕ))) → kept ≡ Some (w, given) → IsInFiles lim d s j c
     → kept ≡ lists_if true (rows_of_all d s j) → AreGiven (rows_of_all d s j) c given
 given_in_files lim d s j c kept w given is h lists =

@@ -21,7 +21,7 @@ pub option_or-assoc : {F : Type 0} (a b c : Option F) → option_or a (option_or
 option_or-assoc None b c = refl
 option_or-assoc (Some f) b c = refl
 
--- the first fault of two lists of rows, one after the other
+-- the first fault in two lists of rows, one after the other, is the first list's or else the second's
 pub first_from-append : {F : Type 0} (f : List Fields → Fields → Option F) (before xs ys : List Fields)
     → first_from f before (xs ++ ys) ≡ option_or (first_from f before xs) (first_from f (before ++ xs) ys)
 unfolding first_from
@@ -50,7 +50,8 @@ outside_fault None f place e (inl memory) = inr ([], inl memory)
 outside_fault (Some rows) f place e (inl memory) = inr (inl memory)
 outside_fault all f place e (inr read) = inl (place, read)
 
--- below the limit on records, the first pass's test of a row, and the rows after this row
+-- below the limit on records, the first pass's fault of a row is its own or else the one that shows from
+-- the rows before
 pub reading_fault-few : (lim : Limits) (before : List Fields) (row : Fields) → length before < most_records lim
     → reading_fault lim before row ≡ option_or (row_fault (next_place before) (workers_in before) row) (option_or (repeat_fault before row) (limit_fault lim before row))
 unfolding reading_fault

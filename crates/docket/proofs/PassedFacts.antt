@@ -28,7 +28,8 @@ use Rattle.docket.proofs.RankingFacts.{lists_of-none, length-quotas_of}
 use Rattle.docket.proofs.WidestFacts.{sound_widest, few_widest}
 use Rattle.docket.proofs.WithdrawalFacts.{withdrawn_of-none}
 
--- what every later pass relies on
+-- what every later pass relies on: the numbers of members are those of the names that the records
+-- declare
 pub known : (r : Reading) (rows : List Fields) → IsDistinct bytes_eq r.texts → IsPassed r rows → AreKnown r.texts r.declared.programmes r.declared.residents rows
 known r rows distinct p = record {
   distinct = distinct;
@@ -48,7 +49,7 @@ ranked_none r rows p = let h = p.reading_is.declared in record {
   residents_withdrawn = h.no_resident_gone ∙ sym (withdrawn_of-none (codes "R") (residents_of rows));
 }
 
--- whether the docket has a sheet, as the first pass notes it
+-- the first pass notes a sheet, or no members at all, exactly if the docket has a sheet
 pub sheet_noted : (r : Reading) (rows : List Fields) → IsPassed r rows
     → (r.declared.has_sheet_row || (nat_eq (length r.declared.programmes) 0 && nat_eq (length r.declared.residents) 0)) ≡ has_sheet rows
 unfolding has_sheet
@@ -80,7 +81,7 @@ all_read lim bytes keeps r d w same h is lists none = record {
   lists_are = lists h.rows h.passed;
 }
 
--- the first fault of the later passes, as a fault of the whole call
+-- if the first pass has no fault and a later pass has one, this is the fault of the whole call
 stops_later : (first : Option RecordsFault) (later : Option DocketFault) (f : DocketFault) → first ≡ None → Refuses later f → Stops (option_or first (option_map Docket later)) (Docket f)
 stops_later first later f none (inl memory) = inl (ap Docket memory)
 stops_later first later f none (inr is) = inr (rw (none, is) refl)
@@ -96,13 +97,13 @@ all_refused lim (Some b) r f same h answers =
     let later : Refuses (later_fault lim (rows_of b)) f = rw (sym same, h.all_are) (answers h.rows h.passed) in
     inr (stops_later _ _ f sound later)
 
--- the sheet of a docket with a sheet, and of a docket with none
+-- the sheet of a docket with a sheet is the placement that its rows tell
 pub sheet_there : (rows : List Fields) (sheet : List (Option ℕ)) → has_sheet rows ≡ true → sheet ≡ placement_of rows → Some sheet ≡ sheet_of rows
 sheet_there rows sheet there is = rw (there, is) refl
 
 pub sheet_away : (rows : List Fields) → has_sheet rows ≡ false → None ≡ sheet_of rows
 sheet_away rows away = rw away refl
 
--- the reading is of some records, whether all are known or not
+-- the records that were read are some, whether all bytes are known or not
 pub some_passed : (all : Option (List Fields)) (r : Reading) → HasPassed all r → HasPassed None r
 some_passed all r h = record { rows = h.rows; all_are = tt; passed = h.passed }

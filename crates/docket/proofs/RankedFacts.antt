@@ -23,7 +23,7 @@ use Rattle.docket.specs.declared.vocabulary.TheConstants.{PROGRAMME_LIST, RESIDE
 use Rattle.docket.proofs.WithdrawalFacts.{withdrawn_of-other}
 use Rattle.docket.proofs.RankingFacts.{distinct_programmes, distinct_residents, length-lists_of, length-quotas_of, list_fault-row, lists_of-none, lists_of-other, lists_of-owner, programme_list_free, resident_list_free, sound_row}
 
--- what the builder has after a P row, and after an R row
+-- what the builder has after a P row: the list of the row's programme
 pub ranked_programme : (b e : Draft) (rows : List Fields) (k i : ℕ) → first_from (reading_fault widest) [] rows ≡ None → length rows ≤ MAX_RECORDS → k < length rows
     → kind_of (row_at rows k) ≡ PROGRAMME_LIST → number_in (programmes_of rows) (field (row_at rows k) 1) ≡ Some i → IsRanked b rows (take k rows)
     → e ≡ with_programme_list b i (listed_in (residents_of rows) (row_at rows k)) → IsRanked e rows (take (k + 1) rows)
@@ -95,7 +95,7 @@ ranked_other b rows k lt p r w h =
           ∙ ap (withdrawn_of (codes "R") (residents_of rows)) (sym next);
     }
 
--- the builder's fault for the list in a P row, and for the list in an R row
+-- the builder's fault for the list in a P row is that a resident stands on it twice, or none
 pub programme_list_fault : (b : Draft) (rows : List Fields) (k i : ℕ) (items : List ℕ) → first_from (reading_fault widest) [] rows ≡ None → length rows ≤ MAX_RECORDS → k < length rows
     → kind_of (row_at rows k) ≡ PROGRAMME_LIST → number_in (programmes_of rows) (field (row_at rows k) 1) ≡ Some i → IsRanked b rows (take k rows)
     → items ≡ listed_in (residents_of rows) (row_at rows k) → list_all (is_declared (residents_of rows)) (drop 2 (row_at rows k)) ≡ true
@@ -147,7 +147,7 @@ pairs_over b rows fault n h (inr over) place =
     above : most_pairs b.limits < pair_count (instance_of b) → nat_le (pair_count (instance_of b)) (most_pairs b.limits) ≡ false
     above lt = search (rules, lt)
 
--- before any list is given there is none for each programme
+-- before any list is given, each programme has none
 pub none_given : (texts : Fields) (programmes : List ℕ) (b : Draft) (rows : List Fields) → AreNames texts programmes (programmes_of rows) → IsRanked b rows []
     → replicate (length programmes) None ≡ b.programme_lists
 none_given texts programmes b rows names h =

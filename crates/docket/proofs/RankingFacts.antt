@@ -47,7 +47,8 @@ pub length-quotas_of : (rows : List Fields) → length (quotas_of rows) ≡ leng
 unfolding quotas_of programmes_of
 length-quotas_of rows = length-map (rows_of_kind QUOTA rows) (λ (r : Fields). unwrap_or (number_of (field r 2)) 0) ∙ sym (length-map (rows_of_kind QUOTA rows) (λ (r : Fields). field r 1))
 
--- what the first pass says about row k, if it accepted all rows
+-- a row that the first pass accepted has no fault by itself, nor any that shows from the rows
+-- before it
 pub sound_row : (rows : List Fields) (k : ℕ) → first_from (reading_fault widest) [] rows ≡ None → length rows ≤ MAX_RECORDS → k < length rows
     → (row_fault (k + 1) (workers_in (take k rows)) (row_at rows k) ≡ None) × (repeat_fault (take k rows) (row_at rows k) ≡ None)
 sound_row rows k none few lt =
@@ -58,7 +59,7 @@ sound_row rows k none few lt =
     let own = both_none (row_fault (next_place (take k rows)) (workers_in (take k rows)) (row_at rows k)) (option_or (repeat_fault (take k rows) (row_at rows k)) (limit_fault widest (take k rows) (row_at rows k))) all in
     (ap (λ (n : ℕ). row_fault (n + 1) (workers_in (take k rows)) (row_at rows k)) (sym here) ∙ own.0, (both_none (repeat_fault (take k rows) (row_at rows k)) (limit_fault widest (take k rows) (row_at rows k)) own.1).0)
 
--- no earlier row of the same kind has the same name
+-- no earlier Q row has the name of a Q row that isn't refused as a repetition
 pub quota_free : (before : List Fields) (row : Fields) → repeat_fault before row ≡ None → kind_of row ≡ QUOTA → list_any (is_row_of QUOTA (field row 1)) before ≡ false
 unfolding repeat_fault
 quota_free before row none kind =
@@ -74,7 +75,7 @@ unfolding repeat_fault
 resident_list_free before row none kind =
     off _ (unless_none (not (list_any (is_row_of RESIDENT_LIST (field row 1)) before)) (DeclaredTwice (next_place before)) (rw kind at none))
 
--- two texts are different, whichever is compared with the other
+-- if one text isn't equal to another, the other isn't equal to it
 pub bytes_eq-swap : (xs ys : List ℕ) → bytes_eq xs ys ≡ false → bytes_eq ys xs ≡ false
 bytes_eq-swap xs ys e = by (bytes_eq ys xs) refl
   where
@@ -139,11 +140,12 @@ find_none p (r ∷ rows) e = by (p r) e (find_none p rows)
     by true e more = absurd (cc e)
     by false e more = more e
 
--- the first row that passes a test, after one more row
+-- the first row that passes a test after one more row is the first one before, or else this row if
+-- it passes
 pub find-push : (p : Fields → Bool) (rows : List Fields) (row : Fields) → find p (rows ++ row ∷ []) ≡ option_or (find p rows) (if p row then Some row else None)
 find-push p rows row = find-append p rows (row ∷ [])
 
--- the members' lists, after the row with one member's list
+-- after the row with one member's list, this member has the list and the others have theirs
 pub lists_of-owner : (kind : ℕ) (owners others : List (List ℕ)) (before : List Fields) (row : Fields) (i : ℕ) → distinct owners ≡ true
     → number_in owners (field row 1) ≡ Some i → is_kind kind row ≡ true → list_any (is_row_of kind (field row 1)) before ≡ false
     → lists_of kind owners others (before ++ row ∷ []) ≡ slice_set (lists_of kind owners others before) i (Some (listed_in others row))
@@ -178,7 +180,7 @@ pub lists_of-none : (kind : ℕ) (owners others : List (List ℕ)) → lists_of 
 unfolding lists_of
 lists_of-none kind owners others = refl
 
--- there is one entry for each owner of a list
+-- the members' lists have one entry for each member
 pub length-lists_of : (kind : ℕ) (owners others : List (List ℕ)) (rows : List Fields) → length (lists_of kind owners others rows) ≡ length owners
 unfolding lists_of
 length-lists_of kind owners others rows = length-map owners (λ (name : List ℕ). option_map (listed_in others) (find (is_row_of kind name) rows))
@@ -194,7 +196,7 @@ owner_unlisted kind owners others before name i at free =
     let there : nat_le (length (map (λ (n : List ℕ). option_map (listed_in others) (find (is_row_of kind n) before)) owners)) i ≡ false = rw size (search (rules, below)) in
     rw (there, list, find_none (is_row_of kind name) before free) refl
 
--- the number of a declared member is below the number of members
+-- if all listed names are declared, the numbers of their members are below the number of members
 pub items_below : (others : List (List ℕ)) (names : List (List ℕ)) → list_all (is_declared others) names ≡ true
     → list_all (λ x. nat_lt x (length others)) (map (member_in others) names) ≡ true
 items_below others [] h = refl
@@ -215,7 +217,7 @@ unfolding listed_in
 list_fault-row kind owners others before row i at free known =
     rw (owner_unlisted kind owners others before (field row 1) i at free, items_below others (drop 2 row) known) refl
 
--- the builder's refusal of a list, as a fault at the list's record
+-- what the builder refuses in a list is told as a fault at the list's record
 pub listed_answer : (T : Type 0) (n : ℕ) (twice : Bool) (r : Result T ModelFault) (f : Option ModelFault) → f ≡ (if not twice then Some model.ListedTwice else None)
     → AnswersOrWantsMemory f r → (fault : ModelFault) → r ≡ Err fault → Refuses (unless twice (Model n model.ListedTwice)) (at_record n fault)
 listed_answer T n twice r f is h fault e = by twice f is (rw e at h)
@@ -234,7 +236,7 @@ listed_fine n false f is none = absurd (cc (is, none))
 pub place_at : (rows : List Fields) (k : ℕ) → k < length rows → k + 1 ≡ next_place (take k rows)
 place_at rows k lt = let size = length-take k rows in omega arith
 
--- the second pass's test of a P row, with a declared owner and with an undeclared owner
+-- if a P row's owner is declared, the second pass finds in it what is wrong with its list
 pub ranking_fault-owned : (rows before : List Fields) (row : Fields) (n i : ℕ) → kind_of row ≡ PROGRAMME_LIST → number_in (programmes_of rows) (field row 1) ≡ Some i
     → n ≡ next_place before → ranking_fault rows before row ≡ listing_fault n (residents_of rows) row
 unfolding ranking_fault
@@ -245,7 +247,7 @@ pub ranking_fault-unowned : (rows before : List Fields) (row : Fields) (n : ℕ)
 unfolding ranking_fault
 ranking_fault-unowned rows before row n kind at place = rw (kind, at, place) refl
 
--- the second pass's test of an R row
+-- in an R row the second pass finds what is wrong with its list
 pub ranking_fault-resident : (rows before : List Fields) (row : Fields) (n : ℕ) → kind_of row ≡ RESIDENT_LIST
     → n ≡ next_place before → ranking_fault rows before row ≡ listing_fault n (programmes_of rows) row
 unfolding ranking_fault
@@ -266,7 +268,7 @@ list_any_true_at p (r ∷ rows) (suc k) lt e = rw (list_any_true_at p rows k (om
     right true = refl
     right false = refl
 
--- the resident of an R row is declared
+-- the resident of an R row without a fault in the first pass is declared
 pub resident_declared : (rows : List Fields) (k : ℕ) → k < length rows → kind_of (row_at rows k) ≡ RESIDENT_LIST
     → number_in (residents_of rows) (field (row_at rows k) 1) ≡ None → ⊥
 unfolding residents_of

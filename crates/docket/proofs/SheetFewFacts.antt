@@ -97,7 +97,7 @@ few_rows p marks known f asks rows none =
     let count = length-filter p rows in
     omega (arith, few, all, names, count)
 
--- the walk over a sheet tests the names of M and U rows in this way, and the names of F rows
+-- the kinds of the rows in which the walk over a sheet tests residents' names: M and U
 abbrev is_mark_row : Fields → Bool
 is_mark_row row = is_kind MATCHED row || is_kind UNMATCHED row
 

@@ -30,7 +30,8 @@ use Rattle.docket.proofs.DeclarationFacts.{list_any-if, option_or-none}
 use Rattle.docket.proofs.NumberFacts.{distinct, at_number, map_at}
 use Rattle.docket.proofs.RankingFacts.{bytes_eq-swap, map-same, find_none, find-push}
 
--- for each name, whether some row passes the name's test, after one more row that passes the test of one name
+-- for each name, whether some row passes its test, after one more row: as before, but true for the name whose
+-- test this row passes
 any_at : (p : List ℕ → Fields → Bool) (names : List (List ℕ)) (done : List Fields) (row : Fields) (name : List ℕ) (i : ℕ) → distinct names ≡ true
     → number_in names name ≡ Some i → p name row ≡ true → ((x : List ℕ) → bytes_eq name x ≡ false → p x row ≡ false)
     → map (λ n. list_any (p n) (done ++ row ∷ [])) names ≡ slice_set (map (λ n. list_any (p n) done) names) i true
@@ -46,7 +47,7 @@ any_same : (p : List ℕ → Fields → Bool) (names : List (List ℕ)) (done : 
 any_same p names done row others =
     map-same (λ (n : List ℕ). list_any (p n) (done ++ row ∷ [])) (λ (n : List ℕ). list_any (p n) done) names (λ x. rw (list_any-if (p x) done row, others x) refl)
 
--- how many rows pass a test, after one more row
+-- the number of rows that pass a test is one more after a row that passes it, and otherwise as before
 count_by-push : (p : Fields → Bool) (done : List Fields) (row : Fields) → count_by p (done ++ row ∷ []) ≡ count_by p done + (if p row then 1 else 0)
 count_by-push p done row = sum_by-append (λ (r : Fields). if p r then 1 else 0) done (row ∷ []) ∙ ap (λ n. count_by p done + n) (zero-add (if p row then 1 else 0))
 
@@ -69,7 +70,8 @@ count_same p names done row others =
 pub count_few : (p : Fields → Bool) (done : List Fields) → count_by p done ≤ length done
 count_few p done = count_by-le-length p done
 
--- the programme of each resident, after one more M row, and after a row that is not an M row
+-- the programme of each resident, after one more M row: the row's resident has the row's programme, and the
+-- others have theirs
 placed_at : (programmes names : List (List ℕ)) (done : List Fields) (row : Fields) (i p : ℕ) → distinct names ≡ true
     → number_in names (field row 1) ≡ Some i → kind_of row ≡ MATCHED → number_in programmes (field row 2) ≡ Some p → list_any (is_row_of MATCHED (field row 1)) done ≡ false
     → map (placed_in programmes (done ++ row ∷ [])) names ≡ slice_set (map (placed_in programmes done) names) i (Some p)
@@ -99,7 +101,7 @@ unmarked_unmatched name (r ∷ done) e = by (is_row_of MATCHED name r) (is_row_o
     by false true e more = absurd (cc e)
     by false false e more = more e
 
--- the mark of a member says whether a row with the member's name was read
+-- the mark at place i is set exactly if an M or U row with the name of resident i was read
 pub marked_at : (marks : Marks) (rows done : List Fields) (name : List ℕ) (i : ℕ) (d : Bool) → IsMarked marks rows done → number_in (residents_of rows) name ≡ Some i
     → get_or marks.marked.items i d ≡ list_any (is_mark_of name) done
 marked_at marks rows done name i d h at = rw h.marked (at_number (λ (n : List ℕ). list_any (is_mark_of n) done) (residents_of rows) name i d at)
@@ -112,7 +114,7 @@ pub counts_at : (marks : Marks) (rows done : List Fields) (name : List ℕ) (i d
     → get_or marks.counts.items i d ≡ count_by (is_matched_with name) done
 counts_at marks rows done name i d h at = rw h.counts (at_number (λ (n : List ℕ). count_by (is_matched_with n) done) (programmes_of rows) name i d at)
 
--- the test of an M, U or F row, case by case
+-- an F row with an undeclared programme has the fault of an unknown name
 pub mark_fault-unknown_filled : (rows before : List Fields) (row : Fields) (n : ℕ) → kind_of row ≡ FILLED → number_in (programmes_of rows) (field row 1) ≡ None → n ≡ next_place before
     → mark_fault rows before row ≡ Some (UnknownName n)
 unfolding mark_fault
@@ -142,13 +144,13 @@ counts_kept : (p : List ℕ → Fields → Bool) (names : List (List ℕ)) (done
     → map (λ n. count_by (p n) done) names ≡ map (λ n. count_by (p n) (done ++ row ∷ [])) names
 counts_kept p names done row others = sym (count_same p names done row others)
 
--- the flags after a row that sets the flag of one name
+-- the flags after a row of one name: the flag of this name is set, and the others are as before
 flags_more : (p : List ℕ → Fields → Bool) (names : List (List ℕ)) (done : List Fields) (row : Fields) (i : ℕ) (name : List ℕ) (flags : List Bool)
     → distinct names ≡ true → number_in names name ≡ Some i → p name row ≡ true → ((x : List ℕ) → bytes_eq name x ≡ false → p x row ≡ false)
     → flags ≡ map (λ n. list_any (p n) done) names → slice_set flags i true ≡ map (λ n. list_any (p n) (done ++ row ∷ [])) names
 flags_more p names done row i name flags d at here others h = rw h (sym (any_at p names done row name i d at here others))
 
--- the marks after an M row, after a U row, after an F row, and after any other row
+-- the marks after an M row have its resident's programme and flag, and are otherwise as before
 pub marks_matched : (m e : Marks) (rows done : List Fields) (row : Fields) (i p : ℕ) → distinct (programmes_of rows) ≡ true → distinct (residents_of rows) ≡ true
     → kind_of row ≡ MATCHED → number_in (residents_of rows) (field row 1) ≡ Some i → number_in (programmes_of rows) (field row 2) ≡ Some p
     → list_any (is_mark_of (field row 1)) done ≡ false → IsMarked m rows done
@@ -196,7 +198,7 @@ marks_other m rows done row im iu ifl h = record {
   counts = h.counts ∙ counts_kept is_matched_with (programmes_of rows) done row (λ x. rw im refl);
 }
 
--- a list with the same value for every name
+-- a list that has the same value for every name is this value, as often as there are names
 pub map_const : {B : Type 0} (c : B) (names : List (List ℕ)) → replicate (length names) c ≡ map (λ (n : List ℕ). c) names
 map_const c [] = refl
 map_const c (n ∷ names) = ap (λ l. c ∷ l) (map_const c names)
@@ -205,14 +207,15 @@ list_all-map : (f : List ℕ → Bool) (names : List (List ℕ)) → list_all (�
 list_all-map f [] = refl
 list_all-map f (n ∷ names) = ap (λ b. f n && b) (list_all-map f names)
 
--- the fault of an incomplete sheet, read from the marks
+-- a sheet is incomplete exactly if some mark of a resident or of a programme isn't set
 pub missing_is : (m : Marks) (rows : List Fields) (n : ℕ) → IsMarked m rows rows → n ≡ length rows
     → missing_fault rows ≡ unless (list_all (λ flag. flag) m.marked.items && list_all (λ flag. flag) m.filled.items) (BadSheet n)
 unfolding missing_fault
 missing_is m rows n h place =
     rw (h.marked, h.filled, list_all-map (λ name. list_any (is_mark_of name) rows) (residents_of rows), list_all-map (λ name. list_any (is_row_of FILLED name) rows) (programmes_of rows), place) refl
 
--- the test of the numbers in an F row, read from the marks
+-- the test of an F row finds a wrong number exactly if its numbers aren't the programme's count and quota by
+-- the marks
 pub filled_is : (rows before : List Fields) (row : Fields) (n i f c q quota : ℕ) → kind_of row ≡ FILLED → number_in (programmes_of rows) (field row 1) ≡ Some i
     → f ≡ unwrap_or (number_of (field row 2)) 0 → c ≡ count_by (is_matched_with (field row 1)) rows → q ≡ unwrap_or (number_of (field row 3)) 0
     → quota ≡ slice_index_or (quotas_of rows) i 0 → n ≡ next_place before → filled_fault rows before row ≡ unless ((f == c) && (q == quota)) (BadSheet n)
@@ -223,7 +226,7 @@ pub filled_other : (rows before : List Fields) (row : Fields) → is_kind FILLED
 unfolding filled_fault
 filled_other rows before row e = rw e refl
 
--- if no row has a fault in a pass, a row among them has none
+-- if no row has a fault in a pass, no row has a fault after the rows before it
 pub clean_here : (f : List Fields → Fields → Option DocketFault) (done rest : List Fields) (row : Fields) → first_from f [] (done ++ row ∷ rest) ≡ None → f done row ≡ None
 unfolding first_from
 clean_here f done rest row none =
@@ -242,7 +245,7 @@ test_true a b e fault is t = rw (is, t) refl
 pub test_false : (a b : Bool) (e : DocketFault) (fault : Option DocketFault) → fault ≡ unless (a && b) e → a ≡ false → fault ≡ unless a e
 test_false a b e fault is t = rw (is, t) refl
 
--- the marks before any row
+-- before any row the marks are blank: no resident has a programme, and no flag is set
 pub marks_none : (m : Marks) (rows : List Fields) (programmes residents : ℕ) → IsBlank m programmes residents → programmes ≡ length (programmes_of rows) → residents ≡ length (residents_of rows)
     → IsMarked m rows []
 marks_none m rows programmes residents h ep er = record {
@@ -257,7 +260,7 @@ pub sheet_all : (m : Marks) (rows : List Fields) → IsMarked m rows rows → m.
 unfolding placement_of
 sheet_all m rows h = h.sheet
 
--- the member with a text's number, at a field of a record
+-- the member whose number a kept row has at field i is the one of the name in this field of the record
 pub member_is : (texts : Fields) (members : List ℕ) (names : List (List ℕ)) (n i : ℕ) (row : Fields) → IsDistinct bytes_eq texts → AreNames texts members names → IsText texts n i row
     → position (nat_eq n) members ≡ number_in names (field row i)
 member_is texts members names n i row d h at = member_named texts members n (field row i) d h.within at ∙ ap (λ l. number_in l (field row i)) h.texts_are
@@ -266,7 +269,7 @@ member_is texts members names n i row d h at = member_named texts members n (fie
 pub members_are : (texts : Fields) (members : List ℕ) (names : List (List ℕ)) → AreNames texts members names → length members ≡ length names
 members_are texts members names h = names_length texts members names h
 
--- the records before a record are fewer than all records
+-- fewer records stand before a record than there are records in all
 pub room : (texts : Fields) (programmes residents : List ℕ) (all before : List Fields) (place : ℕ) (mark : Mark) (row : Fields) → StandsAfter texts programmes residents all before place mark row
     → length before < MAX_RECORDS
 room texts programmes residents all before place mark row h =
@@ -274,7 +277,7 @@ room texts programmes residents all before place mark row h =
     let few = h.known.few in
     omega (arith, size, few)
 
--- the faults of a kept row, by the members with its texts
+-- the fault of an M row that is kept is told by the numbers of its two names' texts
 pub matched_fault_is : (texts : Fields) (programmes residents : List ℕ) (all before : List Fields) (place r p : ℕ) (row : Fields)
     → StandsAfter texts programmes residents all before place (Matched r p) row
     → mark_fault all before row ≡ option_or (unless (is_some (position (nat_eq r) residents)) (UnknownName place))
@@ -308,7 +311,7 @@ unfolding mark_fault
 filled_fault_is texts programmes residents all before place p f q row h =
     rw (member_is texts programmes (programmes_of all) p 1 row h.known.distinct h.known.programmes_are h.says.1, h.place_is, h.says.0) refl
 
--- the members that a kept row names
+-- the resident of a kept M row is the one whose number the row has
 pub matched_resident : (texts : Fields) (programmes residents : List ℕ) (all before : List Fields) (place r p i : ℕ) (row : Fields)
     → StandsAfter texts programmes residents all before place (Matched r p) row → position (nat_eq r) residents ≡ Some i → number_in (residents_of all) (field row 1) ≡ Some i
 matched_resident texts programmes residents all before place r p i row h e = sym (member_is texts residents (residents_of all) r 1 row h.known.distinct h.known.residents_are h.says.1) ∙ e
@@ -329,7 +332,7 @@ pub filled_unknown : (texts : Fields) (programmes residents : List ℕ) (all bef
     → StandsAfter texts programmes residents all before place (Filled p f q) row → position (nat_eq p) programmes ≡ None → number_in (programmes_of all) (field row 1) ≡ None
 filled_unknown texts programmes residents all before place p f q row h e = sym (member_is texts programmes (programmes_of all) p 1 row h.known.distinct h.known.programmes_are h.says.1) ∙ e
 
--- the marks before any row, by the members
+-- blank marks, one for each member, are the marks of the residents and programmes before any row
 pub blank_marked : (m : Marks) (texts : Fields) (programmes residents : List ℕ) (all : List Fields) (p r : ℕ) → IsBlank m p r → p ≡ length programmes → r ≡ length residents
     → AreKnown texts programmes residents all → IsMarked m all []
 blank_marked m texts programmes residents all p r blank ep er known =

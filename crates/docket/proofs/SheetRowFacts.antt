@@ -15,7 +15,7 @@ use Rattle.docket.specs.declared.store.sheet_rows.Mark.TheVariants.{Matched, Unm
 use Rattle.docket.specs.declared.store.sheet_rows.SheetRow.{SheetRow}
 use Rattle.docket.specs.declared.vocabulary.TheConstants.{MOST_NAMES}
 
--- a number stands for the same text after texts were added
+-- a number of a text stands for the same text after texts were added
 pub text_kept : (texts more : Fields) (n i : ℕ) (row : Fields) → StartsWith texts more → IsText texts n i row → IsText more n i row
 text_kept texts more n i row s h =
     let below = slice_get_within texts n (field row i) h in
@@ -35,7 +35,7 @@ kept_grown texts more n (k ∷ kept) (row ∷ rows) s (inl h) =
     inl (record { place = h.0.place; says = says_kept texts more k.mark row s h.0.says }, kept_grown texts more (n + 1) kept rows s h.1)
 kept_grown texts more n (k ∷ kept) (row ∷ rows) s (inr h) = inr (h.0, kept_grown texts more (n + 1) (k ∷ kept) rows s h.1)
 
--- one more record, which belongs to a sheet or does not
+-- what is kept of the records after one more, which is added if it belongs to a sheet
 kept_push : (texts : Fields) (n : ℕ) (kept : List SheetRow) (rows : List Fields) (k : SheetRow) (row : Fields) → AreKeptFrom texts n kept rows
     → k.place ≡ n + length rows → MarkSays texts k.mark row → AreKeptFrom texts n (kept ++ k ∷ []) (rows ++ row ∷ [])
 kept_push texts n [] [] k row h place says = inl (record { place = place ∙ omega arith; says = says }, refl)
@@ -64,11 +64,12 @@ sheet_grow texts more sheet rows s h = record {
   whole = h.whole;
 }
 
--- while the store is not cut, its front has all records
+-- while not too many rows of a sheet are kept, the front of the records that they are kept of is
+-- all records
 all_front : (texts : Fields) (sheet : List SheetRow) (rows : List Fields) (h : AreSheetRows texts sheet rows) → length sheet ≤ MOST_NAMES → rows ≡ h.front
 all_front texts sheet rows h le = h.rows_are ∙ ap (λ r. h.front ++ r) (h.whole le) ∙ append-nil h.front
 
--- one more record of a sheet is kept
+-- a record of a sheet is added to those that are kept, while these aren't too many
 pub sheet_more : (texts : Fields) (sheet : List SheetRow) (rows : List Fields) (k : SheetRow) (row : Fields) → length sheet ≤ MOST_NAMES → k.place ≡ next_place rows
     → MarkSays texts k.mark row → AreSheetRows texts sheet rows → AreSheetRows texts (sheet ++ k ∷ []) (rows ++ row ∷ [])
 sheet_more texts sheet rows k row le place says h =
@@ -82,7 +83,7 @@ sheet_more texts sheet rows k row le place says h =
       whole = λ le. refl;
     }
 
--- one more record is not kept once the store is cut
+-- a record isn't kept any more once too many rows of a sheet are kept
 pub sheet_cut : (texts : Fields) (sheet : List SheetRow) (rows : List Fields) (row : Fields) → MOST_NAMES < length sheet → AreSheetRows texts sheet rows
     → AreSheetRows texts sheet (rows ++ row ∷ [])
 sheet_cut texts sheet rows row many h = record {
@@ -110,7 +111,7 @@ sheet_other texts sheet rows row e h = by (nat_le (length sheet) MOST_NAMES) ref
           whole = λ le. refl;
         }
 
--- a text is a number exactly if it stands for one
+-- a text that stands for a number is a number
 pub is_number-some : (text : List ℕ) (n : ℕ) → number_of text ≡ Some n → is_number text ≡ true
 unfolding number_of
 is_number-some text n h = by (is_number text) refl h

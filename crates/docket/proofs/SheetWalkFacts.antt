@@ -96,7 +96,7 @@ no_kinds row e =
     let first = or_parts (is_kind MATCHED row) (is_kind UNMATCHED row) last.0 in
     (first.0, first.1, last.1)
 
--- what the first walk knows after some records, and what the third walk knows
+-- what the first walk knows after the records that are done: their marks
 abbrev pub IsMarkedSo : Marks → List Fields → List Fields → Type 0
 IsMarkedSo m all done = IsMarked m all done × (first_from (mark_fault all) [] done ≡ None)
 
@@ -122,13 +122,13 @@ stands texts programmes residents kept all h k left P n known = record {
   says = n.kept_is.says;
 }
 
--- a fault of the next kept row is the first fault of the pass
+-- a fault of the next kept row's record is the first fault of the pass, if the records before have none
 pub walk_fault : (f : List Fields → Fields → Option DocketFault) (all before rest : List Fields) (row : Fields) (e : DocketFault) → all ≡ before ++ row ∷ rest
     → first_from f [] before ≡ None → Refuses (f before row) e → Refuses (first_from f [] all) e
 walk_fault f all before rest row e is none (inl memory) = inl memory
 walk_fault f all before rest row e is none (inr here) = inr (ap (first_from f []) is ∙ first_from-found f before rest row e none here)
 
--- each kept row is kept of a record of the sheet
+-- a row is kept only of a record of the sheet
 says_sheet : (texts : Fields) (mark : Mark) (row : Fields) → MarkSays texts mark row → is_sheet_row row ≡ true
 says_sheet texts (Matched r p) row h = rw h.0 refl
 says_sheet texts (Unmatched r) row h = rw h.0 refl
@@ -147,7 +147,7 @@ kept_count texts n (k ∷ kept) (row ∷ rows) (inr h) =
     let more = kept_count texts (n + 1) (k ∷ kept) rows h.1 in
     rw (count_cons is_sheet_row row rows, h.0) (omega (arith, more))
 
--- if the kept rows have no fault, the store is not cut
+-- if the kept rows' records have no fault, they are of all records
 pub front_all : (texts : Fields) (programmes residents : List ℕ) (kept : List SheetRow) (all : List Fields) (h : AreSheetRows texts kept all) → AreKnown texts programmes residents all
     → first_from (mark_fault all) [] h.front ≡ None → h.front ≡ all
 front_all texts programmes residents kept all h known none =
@@ -161,7 +161,7 @@ front_none texts kept all h none =
     let whole = ap (first_from (mark_fault all) []) (sym h.rows_are) ∙ none in
     (both_none (first_from (mark_fault all) [] h.front) (first_from (mark_fault all) h.front h.rest) (sym (first_from-append (mark_fault all) [] h.front h.rest) ∙ whole)).0
 
--- the walk by the index of the kept row
+-- the record of the kept row at place j follows records that have the property of the walk
 pub walk_at : (texts : Fields) (front : List Fields) (kept : List SheetRow) (j : ℕ) (d : SheetRow) (P : List Fields → Type 0)
     → ((done : List Fields) (row : Fields) → is_sheet_row row ≡ false → P done → P (done ++ row ∷ [])) → j < length kept → IsReached texts front (drop j kept) P
     → IsNext texts front (get_or kept j d) (drop (j + 1) kept) P
@@ -171,20 +171,20 @@ pub walk_done : (texts : Fields) (front : List Fields) (kept : List SheetRow) (j
     → ((done : List Fields) (row : Fields) → is_sheet_row row ≡ false → P done → P (done ++ row ∷ [])) → length kept ≤ j → IsReached texts front (drop j kept) P → P front
 walk_done texts front kept j P step le h = walk_end texts front P step (subst (λ l. IsReached texts front l P) (drop_of_length-le kept le) h)
 
--- after the first walk
+-- after the first walk without a fault, the marks are those of all records
 pub marked_end : (texts : Fields) (programmes residents : List ℕ) (kept : List SheetRow) (all : List Fields) (m : Marks) (j : ℕ) (h : AreSheetRows texts kept all)
     → AreKnown texts programmes residents all → length kept ≤ j → IsReached texts h.front (drop j kept) (IsMarkedSo m all) → IsMarkedSo m all all
 marked_end texts programmes residents kept all m j h known le r =
     let end = walk_done texts h.front kept j (IsMarkedSo m all) (marked_passes m all) le r in
     subst (IsMarkedSo m all) (front_all texts programmes residents kept all h known end.1) end
 
--- after the third walk
+-- after the third walk without a fault, no F row has a wrong number
 pub right_end : (texts : Fields) (programmes residents : List ℕ) (kept : List SheetRow) (all : List Fields) (j : ℕ) (h : AreSheetRows texts kept all)
     → AreKnown texts programmes residents all → first_from (mark_fault all) [] all ≡ None → length kept ≤ j → IsReached texts h.front (drop j kept) (IsRightSo all) → IsRightSo all all
 right_end texts programmes residents kept all j h known none le r =
     subst (IsRightSo all) (front_all texts programmes residents kept all h known (front_none texts kept all h none)) (walk_done texts h.front kept j (IsRightSo all) (right_passes all) le r)
 
--- a mark of no F row is kept of no F row
+-- a kept row that isn't of an F row is kept of another record
 pub not_filled : (texts : Fields) (mark : Mark) (row : Fields) → MarkSays texts mark row → ((p f q : ℕ) → mark ≡ Filled p f q → ⊥) → is_kind FILLED row ≡ false
 not_filled texts (Matched r p) row h other = rw h.0 refl
 not_filled texts (Unmatched r) row h other = rw h.0 refl

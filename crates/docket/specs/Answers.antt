@@ -16,14 +16,15 @@ Refuses fault e = answers.Refuses Memory fault e
 abbrev pub Answers : {T : Type 0} → Option DocketFault → Result T DocketFault → Type 0
 Answers fault r = answers.Answers Memory fault r
 
--- the same, where a fault of national limits or of files can come too
+-- the error of reading records is this fault, or out of memory; `StopsAt` says of a result which
+-- error it may be
 abbrev pub Stops : Option RecordsFault → RecordsFault → Type 0
 Stops fault e = answers.Refuses (Docket Memory) fault e
 
 abbrev pub StopsAt : {T : Type 0} → Option RecordsFault → Result T RecordsFault → Type 0
 StopsAt fault r = answers.Answers (Docket Memory) fault r
 
--- a fault of the builder, with the record at which it was found
+-- the builder's fault as a fault of the docket at record n; out of memory names no record
 abbrev pub at_record : ℕ → ModelFault → DocketFault
 at_record n model.TooManyProgrammes = Model n model.TooManyProgrammes
 at_record n model.TooManyResidents = Model n model.TooManyResidents

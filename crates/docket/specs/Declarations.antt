@@ -29,14 +29,15 @@ abbrev pub who_if : Option ℕ → List Fields → List ℕ
 who_if None rows = []
 who_if (Some workers) rows = who_of rows
 
--- the number of workers and the worker of each event, as the rows have them; none if the journal is not by worker
+-- If the journal is by worker, these are the number of workers, from 1 to 8, and the worker of each event, as the
+-- rows have them. Else there is no number of workers, and no event has a worker.
 pub record AreByWorker (workers : Option ℕ) (who : List ℕ) (rows : List Fields) : Type 0 where
   pub workers_are : workers ≡ workers_in rows
   pub who_are : who ≡ who_if workers rows
   pub within : IfSome workers (λ n. AreWorkers n who)
 
--- Everything is as the records declare; a name is kept as the number of its text. The builder has no list and no
--- withdrawal yet. No event stands before the capacity.
+-- What the first pass keeps agrees with the records; each name is kept as the number of its text. The builder has
+-- no list and no withdrawal yet. No event stands before the capacity.
 pub record IsDeclared (d : Declarations) (texts : Fields) (rows : List Fields) : Type 0 where
   pub quotas : d.builder.quotas ≡ quotas_of rows
   pub programme_lists : d.builder.programme_lists ≡ map (λ name. None) (programmes_of rows)
@@ -59,12 +60,13 @@ pub record IsDeclared (d : Declarations) (texts : Fields) (rows : List Fields) :
 abbrev pub AreFew : Option ℕ → Type 0
 AreFew workers = IfSome workers (λ n. n ≤ 8)
 
--- the declarations before and after record number `place`, for any records before it
+-- The declarations before and after record number `place`. If the old ones fit the records before it, the new
+-- ones fit these records and this one. The limits are unchanged, and there are never more than 8 workers.
 pub record Declares (old new : Declarations) (texts : Fields) (place : ℕ) (row : Fields) : Type 0 where
   pub limits : new.builder.limits ≡ old.builder.limits
   pub workers : AreFew old.workers → AreFew new.workers
   pub declared : (rows : List Fields) → place ≡ next_place rows → IsDeclared old texts rows → IsDeclared new texts (rows ++ row ∷ [])
 
--- the fault of a V row as record n, which may only be the first record
+-- the fault of a V row that is record n; only the first record may be a V row
 abbrev pub version_fault : ℕ → Fields → Option DocketFault
 version_fault n row = option_or (unless (nat_eq n 1) (UnknownKind n)) (version_row_fault n row)

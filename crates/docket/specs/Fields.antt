@@ -33,7 +33,7 @@ is_row_of kind name row = is_kind kind row && bytes_eq name (field row 1)
 abbrev pub unless : Bool → DocketFault → Option DocketFault
 unless test fault = if test then None else Some fault
 
--- the event that a word stands for
+-- the event word that a text spells, or none
 unfoldable pub event_word : List ℕ → Option EventWord
 event_word word =
     if bytes_eq word (codes "offer") then Some Offer
@@ -51,12 +51,13 @@ width_of Answer = 5
 width_of Hear = 5
 width_of Close = 2
 
--- how many fields an event with this word has; a journal by worker has one more
+-- how many fields an event with this word has: in a journal by worker one more than else
 abbrev pub event_width : Option ℕ → EventWord → ℕ
 event_width None word = width_of word
 event_width (Some workers) word = width_of word + 1
 
--- the worker's number at the end of an event, if the journal is by this many workers; else 0
+-- The worker's number in the last field of an event, or none if the field has no such number. It is 0 if the journal
+-- is not by worker.
 abbrev pub worker_at : Option ℕ → EventWord → Fields → Option ℕ
 worker_at None word row = Some 0
 worker_at (Some workers) word row = worker_of workers (field row (width_of word))
@@ -66,7 +67,7 @@ worker_at (Some workers) word row = worker_of workers (field row (width_of word)
 abbrev pub counted : ℕ → ℕ → Fields → Option DocketFault
 counted n width row = unless (length row == width) (FieldCount n)
 
--- the fault of `Q,programme,quota`
+-- the first fault of a Q row, which has to be `Q,programme,quota`
 abbrev pub quota_row_fault : ℕ → Fields → Option DocketFault
 quota_row_fault n row =
     option_or (counted n 3 row)
@@ -76,42 +77,42 @@ quota_row_fault n row =
 unfoldable pub lists_names : Fields → Bool
 lists_names row = list_all is_name (drop 1 row)
 
--- the fault of `P,programme,resident,..` or `R,resident,programme,..`
+-- the first fault of a rank list, which has to be `P,programme,resident,..` or `R,resident,programme,..`
 abbrev pub list_row_fault : ℕ → Fields → Option DocketFault
 list_row_fault n row =
     option_or (unless (nat_lt 1 (length row)) (FieldCount n)) (unless (lists_names row) (BadName n))
 
--- the fault of `M,resident,programme`
+-- the first fault of an M row, which has to be `M,resident,programme`
 abbrev pub matched_row_fault : ℕ → Fields → Option DocketFault
 matched_row_fault n row = option_or (counted n 3 row) (unless (is_name (field row 1) && is_name (field row 2)) (BadName n))
 
--- the fault of `U,resident`
+-- the first fault of a U row, which has to be `U,resident`
 abbrev pub unmatched_row_fault : ℕ → Fields → Option DocketFault
 unmatched_row_fault n row = option_or (counted n 2 row) (unless (is_name (field row 1)) (BadName n))
 
--- the fault of `F,programme,filled,quota`
+-- the first fault of an F row, which has to be `F,programme,filled,quota`
 abbrev pub filled_row_fault : ℕ → Fields → Option DocketFault
 filled_row_fault n row =
     option_or (counted n 4 row)
     (option_or (unless (is_name (field row 1)) (BadName n))
     (unless (is_number (field row 2) && is_number (field row 3)) (BadSheet n)))
 
--- the fault of `C,full` or `C,n`; in a journal by worker the number of workers follows
+-- the first fault of a C row, which has to be `C,full` or `C,n`; in a journal by worker the number of workers follows
 abbrev pub capacity_row_fault : ℕ → Fields → Option DocketFault
 capacity_row_fault n row =
     option_or (unless ((length row == 2) || (length row == 3)) (FieldCount n))
     (option_or (unless (is_some (capacity_of (field row 1))) (BadEvent n))
     (unless ((length row == 2) || is_some (workers_of (field row 2))) (BadEvent n)))
 
--- the fault of the two names in an event
+-- the fault of an event unless its fields 2 and 3, counted from 0, are names
 abbrev pub event_names_fault : ℕ → Fields → Option DocketFault
 event_names_fault n row = unless (is_name (field row 2) && is_name (field row 3)) (BadName n)
 
--- the fault of the two names and the kind of answer in an event
+-- the first fault of an answer: its two names, then its kind of answer
 abbrev pub answer_fault : ℕ → Fields → Option DocketFault
 answer_fault n row = option_or (event_names_fault n row) (unless (is_some (answer_of (field row 4))) (BadEvent n))
 
--- the fault of the fields after an event's word
+-- the first fault of the fields after an event's word, but for a worker's number
 abbrev pub event_fields_fault : ℕ → Fields → EventWord → Option DocketFault
 event_fields_fault n row Offer = event_names_fault n row
 event_fields_fault n row Take = event_names_fault n row
@@ -119,15 +120,16 @@ event_fields_fault n row Answer = answer_fault n row
 event_fields_fault n row Hear = answer_fault n row
 event_fields_fault n row Close = None
 
--- the fault of an event row, from its event word if the word is known, and from the number of workers if the journal
--- is by worker
+-- The first fault of an event row: its word is unknown, its number of fields is wrong, or a field is bad. There is a
+-- number of workers only if the journal is by worker.
 abbrev pub worded_row_fault : ℕ → Option ℕ → Fields → Option EventWord → Option DocketFault
 worded_row_fault n workers row None = Some (BadEvent n)
 worded_row_fault n workers row (Some word) =
     option_or (counted n (event_width workers word) row)
     (option_or (event_fields_fault n row word) (unless (is_some (worker_at workers word row)) (BadEvent n)))
 
--- the fault of `E,word,..`; in a journal by worker the worker's number stands at the end
+-- the first fault of an E row, which has to be `E,word,..`; in a journal by worker the worker's number stands at the
+-- end
 abbrev pub event_row_fault : ℕ → Option ℕ → Fields → Option DocketFault
 event_row_fault n workers row =
     option_or (unless (nat_lt 1 (length row)) (FieldCount n)) (worded_row_fault n workers row (event_word (field row 1)))
@@ -140,7 +142,7 @@ version_kind = 86
 abbrev pub withdrawal_kind : ℕ
 withdrawal_kind = 87
 
--- the fault of `V,2`
+-- the first fault of a V row, which has to be `V,2`
 abbrev pub version_row_fault : ℕ → Fields → Option DocketFault
 version_row_fault n row = option_or (counted n 2 row) (unless (bytes_eq (field row 1) (codes "2")) (BadVersion n))
 
@@ -148,15 +150,15 @@ version_row_fault n row = option_or (counted n 2 row) (unless (bytes_eq (field r
 abbrev pub is_side : List ℕ → Bool
 is_side text = bytes_eq text (codes "P") || bytes_eq text (codes "R")
 
--- the fault of `W,P,programme` or `W,R,resident`
+-- the first fault of a W row, which has to be `W,P,programme` or `W,R,resident`
 abbrev pub withdrawal_row_fault : ℕ → Fields → Option DocketFault
 withdrawal_row_fault n row =
     option_or (counted n 3 row)
     (option_or (unless (is_side (field row 1)) (BadWithdrawal n)) (unless (is_name (field row 2)) (BadName n)))
 
--- The first fault that record n has by itself: in its kind, its number of fields, its names, or its numbers and words.
--- A journal may be by this many workers. A V or W row has no fault by itself: whether the row is known depends on the
--- records before it.
+-- The first fault that record n has by itself: in its kind, its number of fields, its names, or its numbers and
+-- words. If the journal is by worker, `workers` is the number of workers. A V or W row has no fault by itself:
+-- whether the row is known depends on the records before it.
 unfoldable pub row_fault : ℕ → Option ℕ → Fields → Option DocketFault
 row_fault n workers row =
     if is_kind QUOTA row then quota_row_fault n row

@@ -26,7 +26,8 @@ number_of Write = zero
 number_of (BadVersion place) = place
 number_of (BadWithdrawal place) = place
 
--- this kind of fault, at the record with this number; a fault of a reader has its file's number already
+-- the same kind of fault at the record with this number; a fault of a reader is left as it is, as its record is
+-- counted in its file
 abbrev pub at_place : ℕ → DocketFault → DocketFault
 at_place place (Read other) = Read other
 at_place place (TooManyRecords other) = TooManyRecords place
@@ -44,23 +45,24 @@ at_place place Write = Write
 at_place place (BadVersion other) = BadVersion place
 at_place place (BadWithdrawal other) = BadWithdrawal place
 
--- the fault at a record of a file, where so many records of other files come before the file
+-- the fault with its record counted in its own file, if `before` records of other files come before that file
 abbrev pub there_is : ℕ → RecordsFault → RecordsFault
 there_is before (records.Docket fault) = records.Docket (at_place (number_of fault - before) fault)
 there_is before (records.TooManyListed place) = records.TooManyListed (place - before)
 there_is before (records.AnotherPart place) = records.AnotherPart (place - before)
 
--- a fault of a file's record, where so many records of other files come before the file
+-- this file, and the fault with its record counted in this file, if `before` records of other files come before it
 abbrev pub there : Part → ℕ → RecordsFault → FileFault
 there file before fault = record { file = file; fault = there_is before fault }
 
--- the last file that can have such a fault: the docket for a fault of a list, the sheet for a fault of the sheet
+-- the last file that can have such a fault: the docket for a fault of a list, the sheet for one of the sheet, and
+-- else the journal
 abbrev pub last_file : DocketFault → Part
 last_file (Model place fault) = part.Docket
 last_file (BadSheet place) = part.Sheet
 last_file fault = part.Journal
 
--- whether a part is the docket, and whether it is the sheet
+-- whether a part is the docket; `is_sheet` says whether it is the sheet
 abbrev pub is_docket : Part → Bool
 is_docket part.Docket = true
 is_docket part.Sheet = false
@@ -71,9 +73,9 @@ is_sheet part.Docket = false
 is_sheet part.Sheet = true
 is_sheet part.Journal = false
 
--- The file of a record, and the record's number in that file, from its number among all records. The numbers of records
--- up to the end of the docket and up to the end of the sheet are given. A number past the last file that can have the
--- fault means the last record of that file.
+-- The file of a record, and the record's number in that file, from its number among all records. `docket` and `sheet`
+-- are the numbers of records up to the end of the docket and up to the end of the sheet. A number past the last file
+-- that can have the fault means the last record of that file.
 abbrev pub in_file : ℕ → ℕ → Part → ℕ → Part × ℕ
 in_file docket sheet last place =
     if nat_le place docket then (part.Docket, place)
@@ -86,6 +88,6 @@ in_file docket sheet last place =
 abbrev pub fault_there : DocketFault → Part × ℕ → FileFault
 fault_there fault at = record { file = at.0; fault = records.Docket (at_place at.1 fault) }
 
--- a fault that a later pass finds in the records of all files, with its file
+-- a fault that a later pass finds in the records of all files together, as a fault of one file
 abbrev pub located : ℕ → ℕ → DocketFault → FileFault
 located docket sheet fault = fault_there fault (in_file docket sheet (last_file fault) (number_of fault))

@@ -13,7 +13,7 @@ use Rattle.docket.specs.declared.vocabulary.Side.{Side}
 use Rattle.docket.specs.declared.vocabulary.Side.TheVariants.{Programmes, Residents}
 use Rattle.docket.specs.declared.vocabulary.TheConstants.{PROGRAMME_LIST, RESIDENT_LIST, MOST_NAMES}
 
--- the letter of a side's rank lists
+-- the letter with which a rank list of this side begins
 abbrev pub list_letter : Side → ℕ
 list_letter Programmes = PROGRAMME_LIST
 list_letter Residents = RESIDENT_LIST
@@ -30,14 +30,14 @@ pub record ListEntry : Type 0 where
   pub owner : List ℕ
   pub listed : List (List ℕ)
 
--- the entry of a rank list on this side, and of a withdrawal, in record n
+-- the entry of a rank list of this side in record n; `gone_entry` is that of a withdrawal
 abbrev pub list_entry : ℕ → Side → Fields → ListEntry
 list_entry n side row = record { place = n; kind = Ranking side; owner = field row 1; listed = drop 2 row }
 
 abbrev pub gone_entry : ℕ → Side → Fields → ListEntry
 gone_entry n side row = record { place = n; kind = Withdrawal side; owner = field row 2; listed = [] }
 
--- the entry of record n, if the record is a rank list or a withdrawal
+-- the entry of record n in a list by itself; an empty list if the record is neither a rank list nor a withdrawal
 unfoldable pub entry_in : ℕ → Fields → List ListEntry
 entry_in n row =
     if is_kind PROGRAMME_LIST row then list_entry n Programmes row ∷ []
@@ -45,7 +45,7 @@ entry_in n row =
     else if is_kind withdrawal_kind row then gone_entry n (unwrap_or (side_of (field row 1)) Programmes) row ∷ []
     else []
 
--- the entries of the records that follow n records; the entries of all records
+-- the entries of records that follow n other records; `entries_of` has those of all records
 unfoldable pub entries_from : ℕ → List Fields → List ListEntry
 entries_from n [] = []
 entries_from n (row ∷ rows) = entry_in (n + 1) row ++ entries_from (n + 1) rows
@@ -60,27 +60,28 @@ pub record KeptEntry : Type 0 where
   pub owner : ℕ
   pub listed : List ℕ
 
--- the entry with the texts of these numbers
+-- the entry with the texts themselves in place of their numbers
 abbrev pub named : Fields → KeptEntry → ListEntry
 named texts e = record { place = e.place; kind = e.kind; owner = slice_index_or texts e.owner []; listed = texts_at texts e.listed }
 
--- the entries kept, and how many texts were new when one of these entries brought them
+-- the kept entries, and how many of their names were new texts, which no earlier record had
 pub record KeptLists : Type 0 where
   pub entries : List KeptEntry
   pub brought : ℕ
 
--- the entry of a stored row, whose listed names stand in one long sequence; the rows' parts lie within this sequence
+-- the entry of a stored row, whose names are a part of one long sequence; `ArePartsOf` says that each row's part lies
+-- within the sequence
 abbrev pub entry_at : List ℕ → KeptRow → KeptEntry
 entry_at names row = record { place = row.place; kind = row.kind; owner = row.owner; listed = take (row.end - row.start) (drop row.start names) }
 
 abbrev pub ArePartsOf : List ℕ → List KeptRow → Type 0
 ArePartsOf names rows = All (λ row. (row.start ≤ row.end) × (row.end ≤ length names)) rows
 
--- the numbers of the entry belong to these texts
+-- each number in the entry is the number of one of these texts
 abbrev pub IsWithin : Fields → KeptEntry → Type 0
 IsWithin texts e = (e.owner < length texts) × AreNumbersOf texts e.listed
 
--- the entry is the whole entry, or has only the first of its listed names
+-- the short entry is the whole one, or lacks some names at the end of the whole one's list
 pub record IsCutFrom (whole short : ListEntry) : Type 0 where
   pub place : short.place ≡ whole.place
   pub kind : short.kind ≡ whole.kind
@@ -88,7 +89,7 @@ pub record IsCutFrom (whole short : ListEntry) : Type 0 where
   pub rest : List (List ℕ)
   pub listed : whole.listed ≡ short.listed ++ rest
 
--- the entries are the first of all entries; the last of them may be cut
+-- the first list has the first entries of the second one; the last of them may lack names at the end of its list
 unfoldable pub AreFront : List ListEntry → List ListEntry → Type 0
 AreFront [] all = ⊤
 AreFront (e ∷ kept) [] = ⊥
@@ -99,22 +100,22 @@ AreFront (e ∷ f ∷ kept) (a ∷ all) = (e ≡ a) × AreFront (f ∷ kept) all
 abbrev pub is_among : List (List ℕ) → List ℕ → Bool
 is_among texts text = list_any (bytes_eq text) texts
 
--- all names in these entries
+-- all names in an entry; `names_in` has those of all these entries
 abbrev pub entry_names : ListEntry → List (List ℕ)
 entry_names e = e.owner ∷ e.listed
 
 abbrev pub names_in : List ListEntry → List (List ℕ)
 names_in entries = flat_map entry_names entries
 
--- What the store keeps of these records. If more texts were new than there can be members, only the first entries are
--- kept. These have more different names than there can be members.
+-- What the store keeps of these records: their entries. If more texts were new than there can be members, only the
+-- first entries may be kept; these have more different names than there can be members.
 pub record AreLists (texts : Fields) (lists : KeptLists) (rows : List Fields) : Type 0 where
   pub within : All (IsWithin texts) lists.entries
   pub whole : lists.brought ≤ MOST_NAMES → map (named texts) lists.entries ≡ entries_of rows
   pub front : AreFront (map (named texts) lists.entries) (entries_of rows)
   pub counted : lists.brought ≤ count_by (is_among (names_in (map (named texts) lists.entries))) texts
 
--- each text that is new in the list is one of the added texts
+-- texts were added at the end, and each of them is one of the names in `added`
 pub record HaveJoined (texts more added : List (List ℕ)) : Type 0 where
   pub extra : List (List ℕ)
   pub more_are : more ≡ texts ++ extra
@@ -133,7 +134,7 @@ pub record AreWalked (texts : Fields) (numbers : List ℕ) (brought : ℕ) (more
   pub whole : now ≤ MOST_NAMES → rest ≡ []
   pub cut : MOST_NAMES < brought → added ≡ []
 
--- the entry is kept at the end, whole or cut
+-- one more entry is kept, at the end: this entry, or this entry without some names at the end of its list
 pub record HasEntry (texts more : Fields) (old new : KeptLists) (entry : ListEntry) : Type 0 where
   pub kept : KeptEntry
   pub entries : new.entries ≡ old.entries ++ kept ∷ []
@@ -143,7 +144,7 @@ pub record HasEntry (texts more : Fields) (old new : KeptLists) (entry : ListEnt
   pub joined : HaveJoined texts more (entry_names (named more kept))
   pub count : new.brought + length texts ≡ old.brought + length more
 
--- the entry is kept at the end; or nothing is kept of it, if too many texts were new before
+-- one more entry is kept, at the end; if too many texts were new before this record, nothing more is kept
 pub record AddsEntry (texts more : Fields) (old new : KeptLists) (entry : ListEntry) : Type 0 where
   pub kept : old.brought ≤ MOST_NAMES → HasEntry texts more old new entry
   pub cut : MOST_NAMES < old.brought → new ≡ old

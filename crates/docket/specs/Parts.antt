@@ -32,7 +32,7 @@ part_of kind =
     else if ((kind == MATCHED) || (kind == UNMATCHED)) || (kind == FILLED) then Some of.Sheet
     else None
 
--- whether this is a part, and another one
+-- whether the second part is known, and is another than the first
 abbrev pub is_other : Part → Option Part → Bool
 is_other part None = false
 is_other of.Docket (Some of.Docket) = false
@@ -45,23 +45,24 @@ is_other of.Journal (Some of.Docket) = true
 is_other of.Journal (Some of.Sheet) = true
 is_other of.Journal (Some of.Journal) = false
 
--- whether a record is of another part than the file's; without a part no record is
+-- whether a record's kind belongs to another part than the file's; if the file has no part, no record's kind does
 abbrev pub is_elsewhere : Option Part → Fields → Bool
 is_elsewhere None row = false
 is_elsewhere (Some part) row = is_other part (part_of (kind_of row))
 
--- the fault of a record of another part than the file's
+-- the fault of a record whose kind belongs to another part than the file's
 abbrev pub kind_fault : Option Part → ℕ → Fields → Option RecordsFault
 kind_fault part n row = if is_elsewhere part row then Some (AnotherPart n) else None
 
--- the fault of a record as a file of this part is read, after these records
+-- the first fault of the record after these ones in a file of this part: too many records, another part's record, or
+-- a fault that the first pass finds
 unfoldable pub part_fault : Option Part → Limits → List Fields → Fields → Option RecordsFault
 part_fault part limits before row =
     if nat_le (most_records limits) (length before) then Some (Docket (TooManyRecords (next_place before)))
     else option_or (kind_fault part (next_place before) row) (first_pass_fault limits before row)
 
--- The reading went on over the records of one more file of this part, after these records. If the file's records are
--- known, all of them were read.
+-- One more file of this part was read, after these records, and no fault was found. If the file's records are known,
+-- all of them were read.
 pub record GoesOn (part : Option Part) (kept : List Fields) (left : Option (List Fields)) (reading : Reading) : Type 0 where
   pub rows : List Fields
   pub all_are : AreAll left rows
@@ -87,11 +88,11 @@ files_fault limits docket sheet journal =
 abbrev pub IsOutsideFile : FileFault → Type 0
 IsOutsideFile e = (e.fault ≡ Docket Memory) ⊎ IsSourceFault e.fault
 
--- the error is this fault, or came from outside
+-- the error is this first fault, or memory ran out, or the reader failed
 abbrev pub Tells : Option FileFault → FileFault → Type 0
 Tells first e = IsOutsideFile e ⊎ (first ≡ Some e)
 
--- where the files end
+-- how many records there are up to the end of the docket, and up to the end of the sheet
 pub record AreEnds (docket sheet : List ℕ) (ends : Ends) : Type 0 where
   pub docket_end : ends.docket ≡ length (rows_of docket)
   pub sheet_end : ends.sheet ≡ length (rows_of docket ++ rows_of sheet)
@@ -109,13 +110,14 @@ pub record IsInFiles (limits : Limits) (docket sheet journal : List ℕ) (d : Co
   pub sound : fault_in limits (rows_of_all docket sheet journal) ≡ None
   pub docket_is : d ≡ contents_of (rows_of_all docket sheet journal)
 
--- the docket of three files, and the lists in their records
+-- the docket of three files without a fault, and the rank lists in their records, as they were written
 pub record IsInFilesWithLists (limits : Limits) (docket sheet journal : List ℕ) (d : Contents) (written : Written) : Type 0 where
   pub docket_is : IsInFiles limits docket sheet journal d
   pub written_is : written ≡ written_of (draft_of (rows_of_all docket sheet journal))
   pub read : IsReadWithin limits None d written
 
--- each programme's list, if it has one, in the records of this docket; a list has only numbers of residents
+-- for each programme the list in its record, or none if it has no list; a list has only numbers of residents of this
+-- docket
 pub record AreGiven (rows : List Fields) (d : Contents) (given : List (Option (List ℕ))) : Type 0 where
   pub given_are : given ≡ (draft_of rows).programme_lists
   pub members : (p : ℕ) (list : List ℕ) → slice_index_or given p None ≡ Some list → list_all (λ r. nat_lt r (length d.residents)) list ≡ true

@@ -5,7 +5,7 @@ use Rattle.records.specs.Reading.{Fields}
 use Rattle.docket.specs.Contents.{programmes_of, residents_of, quotas_of, lists_of, withdrawn_of}
 use Rattle.docket.specs.declared.vocabulary.TheConstants.{PROGRAMME_LIST, RESIDENT_LIST}
 
--- the builder has every member, and the lists and withdrawals of the finished rows
+-- the builder has each programme's quota, and the lists and withdrawals of the finished rows
 pub record IsRanked (builder : Draft) (rows done : List Fields) : Type 0 where
   pub quotas : builder.quotas ≡ quotas_of rows
   pub programme_lists : builder.programme_lists ≡ lists_of PROGRAMME_LIST (programmes_of rows) (residents_of rows) done

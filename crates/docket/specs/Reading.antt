@@ -7,7 +7,7 @@ use Rattle.docket.specs.SheetRows.{AreSheetRows}
 use Rattle.docket.specs.Events.{AreEvents}
 use Rattle.docket.specs.declared.reading.Reading.{Reading}
 
--- there are so many records, and the declarations and the stores are those of these records
+-- the reading counts these records, and what it declares and stores is what these records say
 pub record IsReading (reading : Reading) (rows : List Fields) : Type 0 where
   pub records : reading.records ≡ length rows
   pub declared : IsDeclared reading.declared reading.texts rows
@@ -15,14 +15,15 @@ pub record IsReading (reading : Reading) (rows : List Fields) : Type 0 where
   pub sheet : AreSheetRows reading.texts reading.sheet rows
   pub events : AreEvents reading.texts reading.events rows
 
--- the declarations and the stores are those of these records; the count of the records is left open
+-- what the reading declares and stores is what these records say; it may count another number of
+-- records
 pub record AreStored (reading : Reading) (rows : List Fields) : Type 0 where
   pub declared : IsDeclared reading.declared reading.texts rows
   pub lists : AreLists reading.texts reading.lists rows
   pub sheet : AreSheetRows reading.texts reading.sheet rows
   pub events : AreEvents reading.texts reading.events rows
 
--- the next record is declared and stored, but not counted yet
+-- the next record is added to what is declared and stored, but not counted yet
 pub record Stores (old new : Reading) (row : Fields) : Type 0 where
   pub records : new.records ≡ old.records
   pub limits : new.declared.builder.limits ≡ old.declared.builder.limits

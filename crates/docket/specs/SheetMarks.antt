@@ -16,28 +16,30 @@ use Rattle.docket.specs.declared.vocabulary.TheConstants.{MATCHED, FILLED}
 abbrev pub placed_in : List (List ℕ) → List Fields → List ℕ → Option ℕ
 placed_in programmes done resident = option_and_then (λ row. number_in programmes (field row 2)) (find (is_row_of MATCHED resident) done)
 
--- what the finished rows of a sheet say about each member
+-- The marks are what the finished rows say: each resident's programme, which residents have an M or U
+-- row, which programmes have an F row, and how many M rows name each programme.
 pub record IsMarked (marks : Marks) (rows done : List Fields) : Type 0 where
   pub sheet : marks.sheet ≡ map (placed_in (programmes_of rows) done) (residents_of rows)
   pub marked : marks.marked.items ≡ map (λ name. list_any (is_mark_of name) done) (residents_of rows)
   pub filled : marks.filled.items ≡ map (λ name. list_any (is_row_of FILLED name) done) (programmes_of rows)
   pub counts : marks.counts.items ≡ map (λ name. count_by (is_matched_with name) done) (programmes_of rows)
 
--- no member of so many programmes and residents is marked
+-- the marks for this many programmes and residents before any row is looked at
 pub record IsBlank (marks : Marks) (programmes residents : ℕ) : Type 0 where
   pub sheet : marks.sheet ≡ replicate residents None
   pub marked : marks.marked.items ≡ replicate residents false
   pub filled : marks.filled.items ≡ replicate programmes false
   pub counts : marks.counts.items ≡ replicate programmes 0
 
--- the marks are of so many programmes and residents
+-- the marks have one entry for each of this many programmes and residents
 pub record IsSized (marks : Marks) (programmes residents : ℕ) : Type 0 where
   pub sheet : length marks.sheet ≡ residents
   pub marked : length marks.marked.items ≡ residents
   pub filled : length marks.filled.items ≡ programmes
   pub counts : length marks.counts.items ≡ programmes
 
--- among all records this record stands after those before, and this place and mark are kept of the record
+-- among all records, this record comes right after those before it; `place` is its number, and the mark
+-- says what the record says
 pub record StandsAfter (texts : Fields) (programmes residents : List ℕ) (all before : List Fields) (place : ℕ) (mark : Mark) (row : Fields) : Type 0 where
   pub known : AreKnown texts programmes residents all
   pub rest : List Fields

@@ -13,14 +13,14 @@ use Rattle.docket.specs.declared.vocabulary.TheConstants.{MATCHED, UNMATCHED, FI
 abbrev pub IsText : Fields → ℕ → ℕ → Fields → Type 0
 IsText texts number i row = slice_get texts number ≡ Some (field row i)
 
--- the mark says what the record says
+-- the mark has the record's kind, the numbers of its names' texts, and its numbers
 abbrev pub MarkSays : Fields → Mark → Fields → Type 0
 MarkSays texts (Matched resident programme) row = (kind_of row ≡ MATCHED) × IsText texts resident 1 row × IsText texts programme 2 row
 MarkSays texts (Unmatched resident) row = (kind_of row ≡ UNMATCHED) × IsText texts resident 1 row
 MarkSays texts (Filled programme filled quota) row =
     (kind_of row ≡ FILLED) × IsText texts programme 1 row × (number_of (field row 2) ≡ Some filled) × (number_of (field row 3) ≡ Some quota)
 
--- this is kept of record n
+-- the kept row has record n's number, and says what the record says
 pub record IsKeptOf (texts : Fields) (n : ℕ) (kept : SheetRow) (row : Fields) : Type 0 where
   pub place : kept.place ≡ n
   pub says : MarkSays texts kept.mark row

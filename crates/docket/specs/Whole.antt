@@ -37,7 +37,7 @@ pub record IsByWorker (events : List Event) (by : ByWorkerParts) : Type 0 where
   pub workers : AreWorkers by.workers by.who
 
 -- Each member has a name. The sheet names only members. The journal's events name only members. A journal by worker
--- also has its workers.
+-- has 1 to 8 workers, and one of them for each event.
 pub record IsWhole (d : Contents) : Type 0 where
   pub programmes : length d.programmes ≡ length d.instance.quotas
   pub residents : length d.residents ≡ length d.instance.resident_lists

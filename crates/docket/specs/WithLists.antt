@@ -16,11 +16,12 @@ use Rattle.docket.specs.declared.vocabulary.TheConstants.{RESIDENT_LIST}
 abbrev pub fields_after : ℕ → List ℕ → List Fields → List (List ℕ)
 fields_after kind name rows = drop 2 (unwrap_or (find (is_row_of kind name) rows) [])
 
--- the lists as they were written, and beside them each programme's list, if it has one
+-- the rank lists as they were written, where a member without one has an empty list, and beside them each programme's
+-- list or none
 abbrev pub KeptLists : Type 0
 KeptLists = Written × List (Option (List ℕ))
 
--- the lists in the records, if lists are kept
+-- the rank lists in the records, if lists are kept
 abbrev pub lists_if : Bool → List Fields → Option KeptLists
 lists_if true rows = Some (written_of (draft_of rows), (draft_of rows).programme_lists)
 lists_if false rows = None

@@ -9,7 +9,7 @@ use Rattle.exchange_core.specs.declared.event.Capacity.TheVariants.{Full, Each}
 use Rattle.docket.specs.declared.vocabulary.Side.{Side}
 use Rattle.docket.specs.declared.vocabulary.Side.TheVariants.{Programmes, Residents}
 
--- the capacity of a mailbox with this room, from 1 to 1,024
+-- the capacity of a mailbox for n messages; none unless n is from 1 to 1,024
 abbrev pub each_of : ℕ → Option Capacity
 each_of n = if is_capacity (Each n) then Some (Each n) else None
 
@@ -21,7 +21,7 @@ capacity_of text = if bytes_eq text (codes "full") then Some Full else option_an
 unfoldable pub workers_of : List ℕ → Option ℕ
 workers_of text = option_and_then (λ n. if nat_le 1 n && nat_le n 8 then Some n else None) (number_of text)
 
--- the worker's number that a text stands for, below the number of workers
+-- the worker's number that a text stands for; none unless the number is below the number of workers
 unfoldable pub worker_of : ℕ → List ℕ → Option ℕ
 worker_of workers text = option_and_then (λ n. if nat_lt n workers then Some n else None) (number_of text)
 

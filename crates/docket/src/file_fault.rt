@@ -44,8 +44,7 @@ pub(crate) fn number_of(fault: DocketFault) -> u32
     }
 }
 
-/// The same fault, at the record with this number. A fault of a reader keeps its number, which the reader counts from
-/// the start of its file.
+/// The fault `fault`, but at the record with this number.
 pub(crate) fn at_place(place: u32, fault: DocketFault) -> DocketFault
     ensures { result ≡ spec.at_place place fault }
 {
@@ -68,7 +67,8 @@ pub(crate) fn at_place(place: u32, fault: DocketFault) -> DocketFault
     }
 }
 
-/// A fault of a file's record. So many records of other files come before the file.
+/// A fault with its file. `before` records of other files come before this file, and the fault's record is counted
+/// without them.
 pub(crate) fn there(file: Part, before: u32, fault: RecordsFault) -> FileFault
     ensures { result ≡ spec.there file before fault }
 {
@@ -78,8 +78,8 @@ pub(crate) fn there(file: Part, before: u32, fault: RecordsFault) -> FileFault
     }
 }
 
-// The last file in which such a fault can be. If a list or a sheet lacks something, the fault names the last of all
-// records.
+// The last of the three files in which a fault of this kind can be. If a list or a sheet lacks something, the fault
+// names the last of all records.
 fn last_file(fault: DocketFault) -> Part
     ensures { result ≡ spec.last_file fault }
 {
@@ -110,7 +110,7 @@ fn in_file(ends: &Ends, last: Part, place: u32) -> (Part, u32)
     (Part::Journal, place.saturating_sub(ends.sheet))
 }
 
-/// A fault that a later pass finds in the records of all files, with its file.
+/// A fault that a later pass finds in the records of all files together, as a fault of one of the files.
 pub(crate) fn located(ends: &Ends, fault: DocketFault) -> FileFault
     ensures { result ≡ spec.located ends.now.docket ends.now.sheet fault }
 {

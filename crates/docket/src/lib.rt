@@ -2,11 +2,9 @@
 //!
 //! A docket is read exactly: the result means what the rows say, and the reported fault is the docket's first fault.
 //!
-//! Only tests refuse the following wrong bodies: a body that always answers `Memory` or a device's fault (`Read`,
-//! `Write`); a body that reports an interrupted read as a fault; a body that reports that csv is out of memory as a
-//! device's fault; a body that reads on past the limit on records; and a body with other texts of faults. Nothing
-//! refuses an `events_from` that names a later row than the first of the last events. With such an `events_from` some
-//! walks over the rows take more steps.
+//! Only tests refuse the following wrong bodies. One always answers `Memory` or a device's fault (`Read`, `Write`).
+//! One reports an interrupted read as a fault. One reports that csv is out of memory as a device's fault. One reads
+//! on past the limit on records, and one has other texts of faults.
 #![tactic(auto)]
 
 mod declarations;

@@ -20,7 +20,7 @@ use std::alloc::Global;
 use std::hash::RandomState;
 use std::random::RandomSource;
 
-// Reads all records of one more file, with what they declare. The fault has its file.
+// Reads all records of one more file, with what they declare. A fault is told with its file.
 fn read_file(
     alloc: Global,
     file: Part,

@@ -32,7 +32,7 @@ fn put(lists: &mut Vec<Option<Vec<ResidentNo>>>, place: usize, list: Vec<Residen
 }
 
 impl ProgrammeLists {
-    /// So many programmes, none of which has a list yet.
+    /// This many programmes, none of which has a list yet.
     pub(crate) fn none(alloc: Global, programmes: usize) -> Result<ProgrammeLists, AllocError>
         ensures { IfOk result (λ lists. lists ≡ replicate programmes None) }
     {

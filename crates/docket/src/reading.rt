@@ -25,8 +25,8 @@ pub(crate) struct Reading {
 }
 
 impl Reading {
-    /// Before any record is read. Texts that are added later are hashed with these keys, and declarations have to be
-    /// within these limits.
+    /// What the first pass has before any record is read. Texts that are added later are hashed with these keys, and
+    /// declarations have to be within these limits.
     pub(crate) fn new(alloc: Global, keys: RandomState, limits: Limits) -> Reading
         ensures reading { IsReading result [] }
         ensures limits { result.declared.builder.limits ≡ limits }

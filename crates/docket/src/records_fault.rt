@@ -85,7 +85,7 @@ impl From<DocketFault> for RecordsFault {
     }
 }
 
-/// A fault that every docket may have, as this fault.
+/// The docket's own fault in a fault of records that is one.
 pub(crate) fn of_docket(fault: RecordsFault) -> DocketFault
     requires { IsOfDocket fault }
     ensures { fault ≡ Docket result }
@@ -98,7 +98,7 @@ pub(crate) fn of_docket(fault: RecordsFault) -> DocketFault
     }
 }
 
-/// The fault at a record of a file. So many records of other files come before the file.
+/// The fault with its record counted in its own file. `before` records of other files come before that file.
 pub(crate) fn there_is(before: u32, fault: RecordsFault) -> RecordsFault
     ensures { result ≡ spec.there_is before fault }
 {

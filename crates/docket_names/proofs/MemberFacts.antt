@@ -13,7 +13,7 @@ use Rattle.docket_names.specs.Texts.{number_in, is_declared, texts_at, AreNumber
 use Rattle.docket_names.proofs.NameFacts.{is_some-position, number_in-map, number_there, same_bytes}
 use Rattle.docket_names.proofs.TextFacts.{names_none, names_grown, names_more, number_found, number_text}
 
--- the search for an item that passes a test, after one more item that passes, and after one that fails
+-- if no item before passed a test and the next item passes, the search finds this one
 from_hit : {A : Type 0} (p : A → Bool) (n : ℕ) (xs : List A) (x : A) → position_from p n xs ≡ None → p x ≡ true → position_from p n (xs ++ x ∷ []) ≡ Some (n + length xs)
 from_hit p n [] x none hit = let count : n ≡ n + 0 = omega arith in rw hit (ap Some count)
 from_hit p n (y ∷ ys) x none hit = by (p y) none (λ e. from_hit p (n + 1) ys x e hit)
@@ -133,7 +133,7 @@ noted_grown texts more noted names s h = record {
   noted_are = h.noted_are;
 }
 
--- a set of noted names after one more name
+-- a set of noted names after one more name: this name is noted, and the others as before
 pub noted_more : (texts : List (List ℕ)) (noted all : List Bool) (names : List (List ℕ)) (n : ℕ) (name : List ℕ) → AreNoted texts noted names
     → slice_get texts n ≡ Some name → is_name name ≡ true → ((k : ℕ) → get_or all k false ≡ (nat_eq k n || get_or noted k false)) → AreNoted texts all (names ++ name ∷ [])
 noted_more texts noted all names n name h at is more = record {

@@ -14,7 +14,7 @@ use Rattle.docket_names.specs.Texts.{number_in, is_declared}
 use Rattle.docket_names.specs.declared.name_key.TheConstants.{MAX_NAME}
 use Rattle.docket_names.proofs.WordFacts.{list_all_true_at}
 
--- the comparison of bytes says true for equal texts only, and false for different texts only
+-- two texts that the comparison of bytes finds equal are equal
 pub same_bytes : (xs ys : List ℕ) → bytes_eq xs ys ≡ true → xs ≡ ys
 same_bytes xs ys e = (bytes_eq-Decides xs ys).0 e
 
@@ -58,7 +58,7 @@ pub is_declared-any : (names : List (List ℕ)) (name : List ℕ) → is_declare
 unfolding number_in
 is_declared-any names name = is_some-position (bytes_eq name) names
 
--- the number of a text in the list of the keys' texts
+-- the number of a text among the texts of keys is the position of the first key with this text
 pub number_in-map : {K : Type 0} (f : K → List ℕ) (keys : List K) (text : List ℕ) → number_in (map f keys) text ≡ position (λ k. bytes_eq text (f k)) keys
 unfolding number_in
 number_in-map f keys text = position-map (bytes_eq text) f keys
@@ -157,11 +157,11 @@ longer_unnumbered texts text all h = by (position (bytes_eq text) texts) refl
         let size = ap length is in
         absurd (omega arith)
 
--- whether a name is declared, tested by the keys of the names
+-- a name is among the texts of keys exactly if some key has this text
 pub is_declared-map : {K : Type 0} (f : K → List ℕ) (keys : List K) (name : List ℕ) → is_declared (map f keys) name ≡ list_any (λ k. bytes_eq name (f k)) keys
 is_declared-map f keys name = is_declared-any (map f keys) name ∙ list_any-map (bytes_eq name) f keys
 
--- the number of a name in a list of different names
+-- if no name on a list equals x, and one of them stands at index i, then it isn't x
 apart : (x name : List ℕ) (names : List (List ℕ)) (i : ℕ) → AllByRecursion (λ y. bytes_eq x y ≡ false) names → slice_get names i ≡ Some name → bytes_eq x name ≡ false
 apart x name [] i all at = absurd (cc at)
 apart x name (y ∷ ys) zero all at = let same : y ≡ name = cc at in rw (← same) all.0

@@ -17,7 +17,7 @@ pub filled_by : (text rest : List ℕ) → length text ≤ MAX_NAME → rest ≡
 unfolding filled
 filled_by text rest few zeros = record { fits = few; filled_up = rw (take_front text rest) (ap (λ (l : List ℕ). text ++ l) zeros) }
 
--- the first eight items of a list with at least eight items
+-- the first eight items of a list with at least eight are the items at 0 to 7
 pub first_eight : (b : List ℕ) → 8 ≤ length b
     → take 8 b ≡ get_or b 0 0 ∷ get_or b 1 0 ∷ get_or b 2 0 ∷ get_or b 3 0 ∷ get_or b 4 0 ∷ get_or b 5 0 ∷ get_or b 6 0 ∷ get_or b 7 0 ∷ []
 first_eight [] h = absurd (omega arith)
@@ -74,13 +74,13 @@ pub short_is : (m : ℕ) (bytes text : List ℕ) → m ≡ length text → lengt
 short_is m bytes text sized few alike =
     ap (λ k. take k bytes) sized ∙ sym (take_twice (length text) 8 bytes few) ∙ ap (λ (l : List ℕ). take (length text) l) alike ∙ filled_front text few
 
--- the first eight bytes of an empty text that is filled up are zeros
+-- an empty text that is filled up with zeros begins with eight zeros
 pub no_bytes : (text : List ℕ) → length text ≡ 0 → take 8 (filled text) ≡ replicate 8 0
 unfolding filled
 no_bytes [] h = refl
 no_bytes (b ∷ text) h = absurd (omega (arith, h))
 
--- the eight items of a list from item i on
+-- eight items of a list from item i on are the items at i to i + 7
 pub eight_from : (b : List ℕ) (i : ℕ) → i + 8 ≤ length b
     → take 8 (drop i b) ≡ get_or b i 0 ∷ get_or b (i + 1) 0 ∷ get_or b (i + 2) 0 ∷ get_or b (i + 3) 0 ∷ get_or b (i + 4) 0 ∷ get_or b (i + 5) 0 ∷ get_or b (i + 6) 0 ∷ get_or b (i + 7) 0 ∷ []
 eight_from b i h =
@@ -109,7 +109,7 @@ drop_more (suc m) n (x ∷ xs) = drop_more m n xs ∙ ap (λ k. drop k (x ∷ xs
     one_more : (k l : ℕ) → suc (k + l) ≡ suc k + l
     one_more k l = omega arith
 
--- the items from item i on are eight items and the items after these
+-- the items from item i on are the first eight of them, then those from item i + 8 on
 eight_more : (b : List ℕ) (i : ℕ) → drop i b ≡ take 8 (drop i b) ++ drop (i + 8) b
 eight_more b i = sym (take-append-drop 8 (drop i b)) ∙ ap (λ (l : List ℕ). take 8 (drop i b) ++ l) (drop_more i 8 b)
 

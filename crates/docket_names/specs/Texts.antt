@@ -19,7 +19,7 @@ texts_at texts numbers = map (λ n. slice_index_or texts n []) numbers
 abbrev pub AreNumbersOf : List (List ℕ) → List ℕ → Type 0
 AreNumbersOf texts numbers = All (λ n. n < length texts) numbers
 
--- the list of texts begins with these texts
+-- the second list begins with all texts of the first one
 abbrev pub StartsWith : List (List ℕ) → List (List ℕ) → Type 0
 StartsWith first texts = take (length first) texts ≡ first
 
@@ -27,17 +27,18 @@ StartsWith first texts = take (length first) texts ≡ first
 abbrev pub IsJoined : List (List ℕ) → List (List ℕ) → List ℕ → Type 0
 IsJoined texts more text = (more ≡ texts) ⊎ (more ≡ texts ++ text ∷ [])
 
--- the numbers belong to these texts, and each text is a name
+-- these are the numbers of the names among the texts, and each of the names is a name as a docket
+-- may have it
 pub record AreNames (texts : List (List ℕ)) (numbers : List ℕ) (names : List (List ℕ)) : Type 0 where
   pub within : AreNumbersOf texts numbers
   pub texts_are : texts_at texts numbers ≡ names
   pub named : list_all is_name names ≡ true
 
--- for each text, its position in this list of names, if the text is in the list
+-- entry n is the position of number n in the list, or none if the list lacks it
 pub record AreFoundBy (by_text : List (Option ℕ)) (texts : List ℕ) : Type 0 where
   pub found : (text : ℕ) → slice_index_or by_text text None ≡ position (nat_eq text) texts
 
--- for each text, whether the text is one of these names
+-- entry n says whether the text with number n is one of these names
 pub record AreNoted (texts : List (List ℕ)) (noted : List Bool) (names : List (List ℕ)) : Type 0 where
   pub numbers : List ℕ
   pub names_are : AreNames texts numbers names

@@ -1,4 +1,4 @@
-//! Texts of a docket that are the members of one side.
+//! The members of one side, each by the number of its name's text.
 ghost use Rattle.std.specs.Prelude.{◌≡◌, ◌<◌, ◌++◌, ◌∷◌, [], not, if◌then◌else◌, is_some, nat_eq, length, position, slice_index_or, List, ℕ, IfOk, OnOk};
 ghost use Rattle.docket_names.specs.Texts.{AreFoundBy};
 
@@ -25,7 +25,7 @@ impl Model for Members {
     ghost invariant = { λ m. AreFoundBy m.by_text.items m.texts.items };
 }
 
-// Makes the list long enough for this text. No text becomes a member's name by this.
+// Makes the list long enough for the text with this number. This makes no text a member's name.
 fn reach(by_text: &mut Vec<Option<u32>>, text: usize) -> Result<(), AllocError>
     ensures kept { (texts : List ℕ)
         → AreFoundBy by_text.old.items texts → AreFoundBy by_text.new.items texts }
@@ -67,7 +67,7 @@ impl Members {
         self.texts[member]
     }
 
-    /// The member whose name is this text, if there is such a member.
+    /// The member whose name is the text with this number, if there is such a member.
     #[inline(always)]
     pub fn member(&self, text: usize) -> Option<u32>
         ensures { result ≡ position (nat_eq text) self.now }
@@ -78,7 +78,8 @@ impl Members {
         }
     }
 
-    /// Adds the member with this text, unless there is such a member, and says whether the member is new.
+    /// Adds a member whose name is the text with this number, unless there is such a member. Says whether the member
+    /// is new.
     pub fn add(&mut self, text: usize) -> Result<bool, AllocError>
         ensures fresh { IfOk result (λ fresh.
             fresh ≡ not (is_some (position (nat_eq text) self.old))) }
@@ -92,7 +93,7 @@ impl Members {
         Ok(true)
     }
 
-    // Adds the member with this text. No member has this text yet.
+    // Adds a member whose name is the text with this number. No member has this name yet.
     fn give_place(&mut self, text: usize) -> Result<(), AllocError>
         requires { position (nat_eq text) self.old ≡ None }
         ensures { OnOk result (self.new ≡ self.old ++ text ∷ []) }

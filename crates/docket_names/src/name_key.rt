@@ -56,7 +56,8 @@ impl NameKey {
         &self.bytes[..self.len as usize]
     }
 
-    /// Whether this is the key of this text. The text has at most eight bytes, and `word` is the number of these bytes.
+    /// Whether this is the key of this text. The text has at most eight bytes, and `word` is these bytes, filled up
+    /// with zeros, as a number.
     #[inline(always)]
     pub(crate) fn is_short(&self, text: &[u8], word: u64) -> bool
         requires short { length text.now ≤ 8 }

@@ -19,7 +19,7 @@ impl Model for NameSet {
     ghost view = { λ s. s.by_text.items };
 }
 
-// Makes the list long enough for this text. No text comes into the set by this.
+// Makes the list long enough for the text with this number. This puts no text into the set.
 fn reach(by_text: &mut Vec<bool>, text: usize) -> Result<(), AllocError>
     ensures kept { (n : ℕ)
         → slice_index_or by_text.new.items n false ≡ slice_index_or by_text.old.items n false }
@@ -45,7 +45,7 @@ impl NameSet {
         }
     }
 
-    /// Adds a text to the set, and says whether the text is new in the set.
+    /// Adds the text with this number to the set, and says whether it is new in the set.
     pub fn add(&mut self, text: usize) -> Result<bool, AllocError>
         ensures fresh { IfOk result (λ fresh. fresh ≡ not (slice_index_or self.old text false)) }
         ensures added { OnOk result ((n : ℕ) → slice_index_or self.new n false

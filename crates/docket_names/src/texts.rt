@@ -24,7 +24,7 @@ const FEW: usize = 64;
 pub struct Texts {
     alloc: Global,
     seen: IndexSet<NameKey, RandomState>,
-    // The number after the number found last, and whether the last text came in the order of numbers.
+    // The number after the one found last, and whether the text found last came right after the one before it.
     next: usize,
     in_order: bool,
     guesses: Vec<u32>,
@@ -99,7 +99,8 @@ impl Texts {
         seen.get_index_of(&NameKey::new(text))
     }
 
-    // Whether this text has this number. The text has at most eight bytes, and `word` is the number of these bytes.
+    // Whether this text has this number. The text has at most eight bytes, and `word` is these bytes, filled up with
+    // zeros, as a number.
     #[inline(always)]
     fn is_short(&self, number: usize, text: &[u8], word: u64) -> bool
         requires short { length text.now ≤ 8 }
@@ -132,7 +133,8 @@ impl Texts {
         }
     }
 
-    // The number of this text, if a guess finds it. The text has at most eight bytes, and `word` is their number.
+    // The number of this text, if a guess finds it. The text has at most eight bytes, and `word` is these bytes,
+    // filled up with zeros, as a number.
     #[inline(always)]
     fn guess_short(&self, text: &[u8], word: u64) -> Option<usize>
         requires short { length text.now ≤ 8 }
@@ -207,7 +209,7 @@ impl Texts {
         ensures number { IfSome result (λ n. slice_get self.new n ≡ Some text.now) }
         ensures named { is_some result ≡ true → words.is_name text.now ≡ true }
     {
-        // For the proof alone: each text has the form of a name.
+        // Only the proof needs this line: each text has the form of a name.
         let _seen = &self.seen;
         let number = self.guessed(text)?;
         self.note(number);
@@ -296,8 +298,8 @@ fn guess_at(guesses: &Vec<u32>, place: usize) -> u32 {
     }
 }
 
-// Sets the next guess in an entry of the table. If this entry has a guess and the neighbouring entry has none, the
-// neighbouring entry gets the new guess.
+// Makes this number a guess in an entry of the table. If the entry has a guess already and its neighbour has none,
+// the neighbour gets the new guess.
 fn set_guess(guesses: &mut Vec<u32>, place: usize, number: usize) {
     let other = place ^ 1;
     let is_taken = guess_at(guesses, place) != 0;

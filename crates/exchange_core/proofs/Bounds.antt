@@ -104,7 +104,7 @@ length-flat_map f [] = refl
 length-flat_map f (x ∷ xs) = length-append (f x) (flat_map f xs) ∙ ap (λ (t : ℕ). length (f x) + t) (length-flat_map f xs) ∙ sym (sum_by-cons (λ y. length (f y)) x xs)
 
 module _ (inst : Instance) (cap : Capacity) where
-  -- the answers to programme p, counted over all residents
+  -- the answers to programme p are as many as all residents together sent to it
   told_total : (j : List Event) → IsLegal inst cap j → (p : ℕ) → length (answers_to p j) ≡ over_residents inst (λ r. told p (answers_of r j))
   unfolding answers_to answers_of
   told_total j legal p =

@@ -20,7 +20,7 @@ use Rattle.exchange_core.proofs.InOrder.{next_call, offers_in_order, takes_in_or
 use Rattle.exchange_core.proofs.Rejections.{calls_item_listed, out_within_quota}
 use Rattle.exchange_core.specs.Shown.{IsCapacity}
 
--- some number below n passes the test, or no number below n passes it
+-- the test passes at some number below n, or fails at each number below n
 abbrev FoundOrNot : (ℕ → Bool) → ℕ → Type 0
 FoundOrNot test n = ((k : ℕ) × (k < n) × (test k ≡ true)) ⊎ ((k : ℕ) → k < n → test k ≡ false)
 
@@ -43,7 +43,7 @@ room_some Full most h = omega arith
 room_some (Each n) most h = ltb-true 0 n (and_parts (ltb 0 n) (nat_le n 1024) h).0
 
 module _ (inst : Instance) (cap : Capacity) (j : List Event) (is_instance : IsInstance inst) (is_capacity : IsCapacity cap) (legal : IsLegal inst cap j) (still_open : is_closed j ≡ false) where
-  -- programme p has heard every answer sent to p; resident r owes no answer; resident r has taken every offer to r
+  -- programme p has heard every answer that was sent to it
   abbrev Heard : ℕ → Type 0
   Heard p = length (answers_to p j) ≤ length (hears p j)
 

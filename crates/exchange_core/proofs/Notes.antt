@@ -46,7 +46,7 @@ length-waiting notes part = length-map-range_with_len (λ k. get_or notes (place
 pub waiting_opened : (notes : List ℕ) (start room : ℕ) → waiting_in notes (opened start room) ≡ []
 waiting_opened notes start room = refl
 
--- the note at the front of a part
+-- the note at the front of a part that isn't empty is the first of its waiting notes
 pub first_waiting : (notes : List ℕ) (part : Part) → part.len ≢ 0 → slice_get (waiting_in notes part) 0 ≡ Some (get_or notes (place_in part 0) 0)
 first_waiting notes part some = go part.len some
   where
@@ -64,7 +64,7 @@ waiting_elsewhere notes part at x ring out =
     let here = place_within part k ring (omega (arith, l, ring.len_within)) in
     get_or-set_other notes at (place_in part k) x 0 (λ e. ⊎_elim (λ (b : at < part.start). omega (arith, e, b, here.0)) (λ (b : part.start + part.room ≤ at). omega (arith, e, b, here.1)) out))
 
--- one note is added at the end of a part
+-- if a note is added at the end of a part with room, it is the last of the part's waiting notes
 pub waiting_pushed : (notes : List ℕ) (part : Part) (x : ℕ) → IsRing part → part.len < part.room → part.start + part.room ≤ length notes →
     waiting_in (slice_set notes (place_in part part.len) x) (pushed part) ≡ waiting_in notes part ++ x ∷ []
 waiting_pushed notes part x ring more within =
@@ -76,7 +76,7 @@ waiting_pushed notes part x ring more within =
     ∙ ap (λ (ys : List ℕ). ys ++ x ∷ []) (same_made after before part.len 0 (λ k l.
     get_or-set_other notes (place_in part part.len) (place_in part k) x 0 (λ e. places_apart part k part.len ring l more e)))
 
--- the front note of a part is removed
+-- if the front note of a part is removed, the part's waiting notes are the others
 pub waiting_popped : (notes : List ℕ) (part : Part) → IsRing part → waiting_in notes (popped part) ≡ drop 1 (waiting_in notes part)
 waiting_popped notes part ring = ⊎_elim none some (cases_eq part.len 0)
   where

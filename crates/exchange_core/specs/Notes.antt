@@ -16,12 +16,12 @@ place_in part k = part.start + wrapped part.room (part.front + k)
 abbrev pub waiting_in : List ℕ → Part → List ℕ
 waiting_in notes part = map (λ k. slice_index_or notes (place_in part k) 0) (range_with_len 0 part.len)
 
--- the front lies within the part, and the part has room for each note that waits
+-- the front lies within the part or at its end, and the part has room for each note that waits
 pub record IsRing (part : Part) : Type 0 where
   pub front_within : part.front ≤ part.room
   pub len_within : part.len ≤ part.room
 
--- an empty part
+-- a part without notes, which starts here and has this room
 abbrev pub opened : ℕ → ℕ → Part
 opened start room = record { start = start; room = room; front = 0; len = 0 }
 

@@ -10,21 +10,22 @@ use Rattle.exchange_core.specs.Left.{ResidentLeft, ProgrammeLeft}
 use Rattle.exchange_core.specs.Notes.{waiting_in, span, IsRing}
 use Rattle.exchange_core.specs.Seats.{due_of}
 
--- the programme in the note of an offer; the rank is the note's lower part
+-- the programme in the note of an offer, which is the note's upper part
 abbrev pub programme_of : ℕ → ℕ
 programme_of note = note / RANKS
 
--- the rank in an offer's note
+-- the rank in the note of an offer, which is the note's lower part
 abbrev pub rank_of : ℕ → ℕ
 rank_of note = note % RANKS
 
--- the rank of the held offer after one more answer to an offer that was taken
+-- the rank of the held offer after an answer: if the answer is `hold`, that of the taken offer, else the rank
+-- held before
 abbrev pub rank_after : ℕ → ℕ → AnswerKind → ℕ
 rank_after held taken Hold = taken
 rank_after held taken Decline = held
 rank_after held taken Release = held
 
--- what a resident's seat shows
+-- what a resident's seat, with the row of notes, says of the resident's desk
 abbrev pub shown_resident : List ℕ → ResidentSeat → ResidentLeft
 shown_resident notes seat = record { waiting = map programme_of (waiting_in notes seat.part); due = due_of seat.first_due seat.second_due; held = seat.held; room = seat.part.room }
 
@@ -32,7 +33,8 @@ shown_resident notes seat = record { waiting = map programme_of (waiting_in note
 abbrev pub resident_span : ResidentSeat → ℕ × ℕ
 resident_span seat = span seat.part
 
--- the part of a resident's seat is a ring
+-- the resident's part of the row of notes is a ring: its front lies within the part or at its end, and the
+-- part has room for the notes that wait
 abbrev pub IsResidentRing : ResidentSeat → Type 0
 IsResidentRing seat = IsRing seat.part
 
@@ -54,7 +56,7 @@ note_of answer = answer.0 * 4 + code_of answer.1
 abbrev pub answer_of : ℕ → Answered
 answer_of note = (note / 4, kind_of (note % 4))
 
--- what a programme's seat shows
+-- what a programme's seat, with the row of notes, says of the programme's desk
 abbrev pub shown_programme : List ℕ → ProgrammeSeat → ProgrammeLeft
 shown_programme notes seat = record {
   offered = seat.offered;
@@ -69,6 +71,7 @@ shown_programme notes seat = record {
 abbrev pub programme_span : ProgrammeSeat → ℕ × ℕ
 programme_span seat = span seat.part
 
--- the part of a programme's seat is a ring
+-- the programme's part of the row of notes is a ring: its front lies within the part or at its end, and the
+-- part has room for the notes that wait
 abbrev pub IsProgrammeRing : ProgrammeSeat → Type 0
 IsProgrammeRing seat = IsRing seat.part

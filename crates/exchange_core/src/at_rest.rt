@@ -1,4 +1,4 @@
-//! What is still pending in an exchange: an exchange is at rest if nothing is pending.
+//! What is still pending in an exchange. An exchange is at rest if nothing is pending.
 ghost use Rattle.std.specs.Prelude.{◌≡◌, ◌<◌, true, length, None};
 ghost use Rattle.exchange_core.specs.Refusal.{first_below};
 ghost use Rattle.exchange_core.specs.Steps.{IsCoreOf, pending_left, resident_pending_at, programme_pending_at};
@@ -8,7 +8,7 @@ use crate::exchange::Core;
 use match_model::{Instance, ProgrammeNo, ResidentNo};
 
 impl Core {
-    /// The first pending thing of the exchange, or none if the exchange is at rest.
+    /// What is pending first in the exchange, or none if the exchange is at rest.
     #[tactic(auto, using(crate::proofs::FirstBelow::first_of_second, crate::proofs::FirstBelow::first_of_first), unfolding(crate::specs::Steps::pending_left))]
     #[inline(never)]
     pub(crate) fn pending(&self, inst: &Instance) -> Option<Pending>
@@ -22,7 +22,7 @@ impl Core {
         self.pending_at_programmes(inst)
     }
 
-    /// Whether nothing is pending at any desk. The core's four counts of desks show this.
+    /// Whether nothing is pending at any desk, by the core's four counts of desks where something is.
     #[tactic(auto, using(crate::proofs::Quiet::all_at_rest))]
     pub(crate) fn is_at_rest(&self, inst: &Instance) -> bool
         requires { IsCoreOf inst.now self.now }
@@ -31,8 +31,8 @@ impl Core {
         self.residents.are_quiet() && self.programmes.are_content()
     }
 
-    /// The first pending thing at a resident's desk. If no offer waits and no answer is due anywhere, no desk is looked
-    /// at.
+    /// What is pending first at a resident's desk. No desk is looked at if, by the counts, no offer waits and no
+    /// answer is due anywhere.
     #[tactic(auto, using(crate::proofs::FirstBelow::first_below_found, crate::proofs::FirstBelow::first_below_more, crate::proofs::Quiet::quiet_residents))]
     fn pending_at_residents(&self, inst: &Instance) -> Option<Pending>
         requires { IsCoreOf inst.now self.now }
@@ -51,8 +51,8 @@ impl Core {
         None
     }
 
-    /// The first pending thing at a programme's desk. If no answer waits and no programme has a wish, no desk is looked
-    /// at.
+    /// What is pending first at a programme's desk. No desk is looked at if, by the counts, no answer waits and no
+    /// programme has a wish.
     #[tactic(auto, using(crate::proofs::FirstBelow::first_below_found, crate::proofs::FirstBelow::first_below_more, crate::proofs::Quiet::content_programmes))]
     fn pending_at_programmes(&self, inst: &Instance) -> Option<Pending>
         requires { IsCoreOf inst.now self.now }

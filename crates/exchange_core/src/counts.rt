@@ -1,7 +1,8 @@
 //! Counts of the desks at which something is pending.
 ghost use Rattle.std.specs.Prelude.{◌≡◌, ◌+◌, ◌^◌, ◌<◌, true, if◌then◌else◌};
 
-/// The new count of desks that pass a test. One desk's answer to the test was `was` and now is `is`.
+/// The count of desks that pass a test, after one desk changed. `was` and `is` say whether this desk
+/// passed before and passes now.
 #[inline(always)]
 pub(crate) fn recounted(count: usize, was: bool, is: bool) -> usize
     requires counted { was ≡ true → 0 < count }

@@ -43,7 +43,8 @@ impl Model for AnswerNote {
 /// What an event leaves in the mailbox of its sender and in the mailbox of its receiver.
 #[derive(Clone, Copy, Debug, PartialEq, Eq)]
 pub struct MailLeft {
-    /// Whether the message that was sent is the only message in its mailbox.
+    /// Whether the message that was sent is the only one in its mailbox, so that the mailbox was
+    /// empty before.
     pub receiver_was_empty: bool,
     /// Whether messages wait in the mailbox of the event's own desk.
     pub sender_has_more: bool,

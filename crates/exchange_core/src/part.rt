@@ -30,7 +30,7 @@ impl Part {
         }
     }
 
-    /// The entry of the row at which the note with this number stands. The front note has number 0.
+    /// Where in the row the note with this number stands. The front note has number 0.
     #[inline(always)]
     fn place(self, number: u32) -> usize
         requires ring { IsRing self }
@@ -46,7 +46,7 @@ impl Part {
         self.start + (from_start - room)
     }
 
-    /// The front note.
+    /// The front note, or none if no note waits.
     #[inline(always)]
     pub(crate) fn first(self, notes: &Vec<u32>) -> Option<u32>
         requires ring { IsRing self }

@@ -128,7 +128,7 @@ impl ProgrammeRow {
         self.seats[programme.0 as usize].part.len > 0
     }
 
-    /// The front answer, with its resident.
+    /// The front answer, with its resident, or none if no answer waits.
     #[inline(always)]
     pub(crate) fn first_waiting(&self, programme: ProgrammeNo) -> Option<(ResidentNo, AnswerKind)>
         requires { programme < length self.now }

@@ -14,8 +14,9 @@ use match_model::{Instance, MAX_PROGRAMMES, ProgrammeNo, ResidentNo};
 use std::alloc::{AllocError, Global};
 use std::marker::Model;
 
-/// A resident's desk: its part of the row of notes, with the waiting offers; at most two due answers; and the programme
-/// held. The desk also has guesses of two ranks: the rank of the offer taken last, and the rank of the held offer.
+/// A resident's desk: its part of the row of notes, with the waiting offers; at most two due answers; and the
+/// programme held. The desk also has guesses of two ranks on the resident's list: of the offer taken last, and of the
+/// held offer.
 #[derive(Clone, Copy)]
 pub(crate) struct ResidentSeat {
     part: Part,
@@ -117,7 +118,7 @@ impl ResidentRow {
         self.seats[resident.0 as usize].part.len > 0
     }
 
-    /// The programme of the front offer.
+    /// The programme of the front offer, or none if no offer waits.
     #[inline(always)]
     pub(crate) fn first_waiting(&self, resident: ResidentNo) -> Option<ProgrammeNo>
         requires { resident < length self.now }
@@ -138,7 +139,7 @@ impl ResidentRow {
         self.seats[resident.0 as usize].first_due
     }
 
-    /// The programme whose offer the resident holds.
+    /// The programme whose offer the resident holds, or none.
     #[inline(always)]
     pub(crate) fn held(&self, resident: ResidentNo) -> Option<ProgrammeNo>
         requires { resident < length self.now }
@@ -203,7 +204,7 @@ impl ResidentRow {
         self.with_due = recounted(self.with_due, false, true);
     }
 
-    /// Removes the first due answer: an answer to this programme, of this kind.
+    /// Removes the first due answer, which goes to this programme and is of this kind.
     #[inline(always)]
     pub(crate) fn answer(&mut self, resident: ResidentNo, programme: ProgrammeNo, kind: AnswerKind)
         requires { resident < length self.old }
@@ -249,7 +250,8 @@ fn rank_of(note: u32) -> u32
     note % RANKS
 }
 
-/// The guessed rank of the held offer after an answer of this kind.
+/// The guessed rank of the held offer after an answer of this kind: that of the offer taken last if the answer is a
+/// hold, else unchanged.
 #[inline(always)]
 fn rank_after(held: u32, taken: u32, kind: AnswerKind) -> u32
     ensures { result ≡ rank_after held taken kind }
@@ -279,7 +281,7 @@ fn called_for(
     (Some((programme, AnswerKind::Decline)), None)
 }
 
-/// The programme held after an answer of this kind to this programme.
+/// The programme whose offer is held after an answer of this kind to this programme.
 #[inline(always)]
 fn held_after(
     held: Option<ProgrammeNo>,
@@ -309,7 +311,7 @@ fn due_next(
     }
 }
 
-/// The answer that releases the held programme, if a programme is held.
+/// The answer that releases the programme held until now, if there is one.
 #[inline(always)]
 fn release_of(held: Option<ProgrammeNo>) -> Option<(ProgrammeNo, AnswerKind)>
     ensures { option_to_list result ≡ released held }

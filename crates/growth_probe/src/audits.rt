@@ -13,7 +13,7 @@ use std::alloc::{AllocError, Global};
 use std::io::Write;
 use test_support::events::{A, B, X, Y};
 
-// The other stable sheet of the small docket, which is not the match's result.
+// The other stable sheet of the small docket, which is not the result of its match.
 const OTHER_SHEET: &str = "M,x,b\nM,y,a\nF,a,1,1\nF,b,1,1\n";
 
 // The small docket's journal of nine events.
@@ -26,7 +26,7 @@ const UNSTABLE: &str = "S,unstable\nB,y,a\n";
 // A docket whose sheet has a blocking pair.
 const BLOCKED: &str = "Q,a,2\nP,a,x,y\nR,x,a\nR,y,a\nM,x,a\nU,y\nF,a,1,2\n";
 
-// Whether the second resident and the only programme form a blocking pair, and the report finds nothing else.
+// Whether the report has the blocking pair of the second resident and the only programme, and nothing else.
 fn is_blocked(report: &AuditReport) -> bool {
     report.unacceptable.is_empty()
         && report.over.is_empty()
@@ -107,7 +107,7 @@ fn is_good(answer: &Result<Replayed, ReplayFault>) -> bool {
     }
 }
 
-// The answer of a replay of the docket's journal, or `NotClosed` if there is no journal.
+// The answer of a replay of the docket's journal; `NotClosed` if there is no journal.
 fn replay_of(alloc: Global, docket: &Docket) -> Result<Replayed, ReplayFault> {
     let Some(journal) = docket.journal() else {
         return Err(ReplayFault::NotClosed);
@@ -151,7 +151,7 @@ pub(super) fn answer<W: Write>(alloc: Global, out: &mut W) -> Seen {
     Seen::at_once(answer == Ok(()) && room.as_slice() == b"G,9\n".as_slice())
 }
 
-// The answer of a check of the docket's journal against its sheet, or `NotClosed` if one of them is missing.
+// The answer of a check of the docket's journal against its sheet; `NotClosed` if one of them is missing.
 fn check_of(alloc: Global, docket: &Docket) -> Result<Replayed, ReplayFault> {
     let (Some(journal), Some(sheet)) = (docket.journal(), docket.sheet()) else {
         return Err(ReplayFault::NotClosed);

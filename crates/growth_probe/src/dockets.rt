@@ -16,7 +16,7 @@ pub(super) const SMALL: &str = "Q,a,1\nQ,b,1\nP,a,x,y\nP,b,y,x\nR,x,b,a\nR,y,a,b
 /// The sheet that a match of `SMALL` writes.
 pub(super) const SHEET: &str = "M,x,a\nM,y,b\nF,a,1,1\nF,b,1,1\n";
 
-/// Memory for the output, reserved before growths of memory are counted.
+/// A buffer for the output, made before growths of memory are counted.
 pub(super) fn room(alloc: Global) -> Result<Vec<u8>, AllocError> {
     Vec::with_capacity(alloc, 4_096)
 }
@@ -30,7 +30,7 @@ pub(super) fn joined(alloc: Global, texts: &[&str]) -> Result<Vec<u8>, AllocErro
     Ok(all)
 }
 
-/// The docket of these texts, read with ample memory.
+/// The docket in these texts, read with enough memory.
 pub(super) fn docket_of(alloc: Global, texts: &[&str]) -> Option<Docket> {
     let text = joined(alloc, texts).ok()?;
     read_docket(&OneByte(7), alloc, text.as_slice()).ok()

@@ -180,7 +180,7 @@ pub(super) fn resident_agent<W: Write>(alloc: Global, out: &mut W) -> Seen {
     }
 }
 
-// How a run with the three residents ends: whether it closed with each resident matched as expected, or its fault.
+// Whether a run with three residents closed with each of them matched as expected, or the run's fault.
 fn closes<R: Threads + Wait + Sync + Send + Copy>(
     rt: R,
     alloc: Global,

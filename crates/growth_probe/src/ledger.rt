@@ -72,7 +72,7 @@ fn opened_as<J: ExchangeIdentity>(
     }
 }
 
-// Opens a ledger as `opened_as` does, for an exchange with a name of its own.
+// Opens a ledger as `opened_as` does, for a new exchange.
 fn opened_anew(alloc: Global, inst: &Instance, ends: Ends) -> Result<bool, (LedgerFault, Ends)>
     requires offer_ends { (i : ℕ) (end : PutList ℕ)
         → slice_get ends.0.items i ≡ Some end → end.puts ≡ [] }

@@ -1,6 +1,7 @@
-//! Makes one call of the libraries, and prints what the call did. Without a name on the command line, the program makes
-//! all calls, one after another. If a growth of memory is refused during a call, the call has to answer Memory and
-//! leave borrowed values unchanged. When the call is made again, it has to give its right answer.
+//! Makes one call of the libraries, and prints what the call did. Without a name on the command line, the program
+//! makes all calls, one after another. If a growth of memory is refused during a call, the call has to answer that
+//! memory ran out and to leave borrowed values unchanged. When the call is made again, it has to give its right
+//! answer.
 #![tactic(auto)]
 
 mod audits;
@@ -52,7 +53,7 @@ const CALLS: [&str; 28] = [
     "read_line",
 ];
 
-// Makes the call with this name, and writes marks to `out` before and after the call.
+// Makes the call with this name, and writes a mark to `out` before the call and one after it.
 fn made<H: Threads + Wait + RandomSource + Sync + Send + Copy + Drop, W: Write>(
     rt: H,
     alloc: Global,

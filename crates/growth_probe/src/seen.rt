@@ -6,7 +6,8 @@ use std::io::Write;
 pub(super) enum Seen {
     /// The call gave its right answer.
     Answered,
-    /// The call answered Memory and changed nothing. When it was made again, it gave its right answer.
+    /// The call answered that memory ran out, and changed nothing. When it was made again, it gave its right
+    /// answer.
     WantedMemory,
     /// The call answered that a worker could not be started. When it was made again, it gave its right answer.
     WantedThread,
@@ -15,7 +16,7 @@ pub(super) enum Seen {
 }
 
 impl Seen {
-    /// The call answered without a fault, rightly or wrongly.
+    /// What was seen of a call that answered without a fault, rightly or not.
     pub(super) fn at_once(is_right: bool) -> Seen {
         if is_right {
             Seen::Answered
@@ -24,7 +25,8 @@ impl Seen {
         }
     }
 
-    /// The call answered Memory first, and then rightly or wrongly.
+    /// What was seen of a call that first answered that memory ran out, and the second time answered rightly
+    /// or not.
     pub(super) fn after_memory(is_right: bool) -> Seen {
         if is_right {
             Seen::WantedMemory
@@ -33,7 +35,8 @@ impl Seen {
         }
     }
 
-    /// The call first answered that a worker could not be started, and then answered rightly or wrongly.
+    /// What was seen of a call that first answered that a worker could not be started, and the second time
+    /// answered rightly or not.
     pub(super) fn after_thread(is_right: bool) -> Seen {
         if is_right {
             Seen::WantedThread
@@ -42,7 +45,7 @@ impl Seen {
         }
     }
 
-    /// The variant as one word.
+    /// The word for what was seen.
     pub(super) fn text(self) -> &'static str {
         match self {
             Seen::Answered => "answered",

@@ -92,7 +92,7 @@ impl Trial<'_> {
     }
 }
 
-// Reads a command line with a wrong number of workers.
+// Reads a command line that has a wrong number of workers.
 fn line<W: Write>(alloc: Global, out: &mut W) -> Seen {
     let words = ["match", "--workers", "9"];
     begin(out);
@@ -154,7 +154,7 @@ fn replayed<H: Threads + Wait + RandomSource + Sync + Send + Copy, W: Write>(
     trial.seen(rt, alloc, out)
 }
 
-/// Makes the call with this name. If no call has this name, the result is never right.
+/// Makes the call with this name. The result is wrong if there is no such call.
 pub(super) fn made<H: Threads + Wait + RandomSource + Sync + Send + Copy, W: Write>(
     rt: H,
     alloc: Global,

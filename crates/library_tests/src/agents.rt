@@ -15,7 +15,7 @@ use std::test::Fail;
 use test_support::events::{A, B, HOLD, RELEASE, X, Y, Z};
 use test_support::instances::{TWO_PLACES, made};
 
-// What a resident's agent answers to a take, and the two answers that the agent gives afterwards.
+// What a resident's agent answers to a take, and which two answers it gives afterwards.
 type Taken = (
     Option<Heard<OfferNote>>,
     [Option<(ProgrammeNo, AnswerKind)>; 2],
@@ -34,7 +34,7 @@ const TAKEN: [Taken; 3] = [
     (Some(Heard::LogFull), [None, None]),
 ];
 
-// Whether the desk takes and gives what is expected, and then has the expected log.
+// Whether the desk takes offers and gives answers as expected, and then has the expected log.
 fn takes_so<T: TakeEnd<OfferNote> + Drop>(
     run: &mut ResidentRun<T>,
     wanted: &[Taken],
@@ -48,7 +48,7 @@ fn takes_so<T: TakeEnd<OfferNote> + Drop>(
     run.log() == log
 }
 
-// Opens the desk of X over this end, and returns whether the desk takes and gives what is expected.
+// Opens the desk of X over this end. Returns whether the desk takes offers and gives answers as expected.
 fn resident_takes<T: TakeEnd<OfferNote> + Drop>(
     alloc: Global,
     end: T,
@@ -90,7 +90,7 @@ const ANSWERS: [AnswerNote; 3] = [
     },
 ];
 
-// Whether the desk hears these answers and no further answer, returns each of them, and then has the expected log.
+// Whether the desk hears these answers and then gets the reply `last`, and then has the expected log.
 fn hears_so<T: TakeEnd<AnswerNote> + Drop>(
     run: &mut ProgrammeRun<T>,
     answers: &[AnswerNote],
@@ -104,7 +104,7 @@ fn hears_so<T: TakeEnd<AnswerNote> + Drop>(
     run.hear() == last && run.log() == answers
 }
 
-// Whether the desk offers to these residents, one after another.
+// Whether the desk wants to offer to these residents, one after another.
 fn offers_so<T: TakeEnd<AnswerNote> + Drop>(
     run: &mut ProgrammeRun<T>,
     wanted: &[Option<ResidentNo>],
@@ -117,8 +117,8 @@ fn offers_so<T: TakeEnd<AnswerNote> + Drop>(
     true
 }
 
-// Opens the desk of A over this end. Returns whether the desk offers to X and Y, hears the answers and no further
-// answer, and then offers to the expected residents.
+// Opens the desk of A over this end. Returns whether the desk offers to X and Y, hears the answers and no others,
+// and then offers to the expected residents.
 fn programme_hears<T: TakeEnd<AnswerNote> + Drop>(
     alloc: Global,
     end: T,

@@ -9,7 +9,7 @@ use test_support::events::{
 };
 use test_support::instances::{Members, TWO_BY_TWO, TWO_PLACES, made};
 
-// The sheet that matches each resident with the programme of this number, or with none.
+// The sheet that matches each resident with the programme that has this number, or with none.
 fn sheet(alloc: Global, places: &[Option<u32>]) -> Result<Assignment, ModelFault> {
     let Ok(residents) = u32::try_from(places.len()) else {
         return Err(ModelFault::TooManyResidents);
@@ -56,7 +56,7 @@ fn are_over(found: &[(ProgrammeNo, u32)], wanted: &[(u32, u32)]) -> bool {
             .all(|((p, count), wanted)| (p.0, *count) == *wanted)
 }
 
-// Whether the report has the expected lists, and is stable exactly if all of them are empty.
+// Whether the report has the expected lists, and says that the sheet is stable exactly if all of them are empty.
 fn has_found(report: &AuditReport, lists: Findings) -> bool {
     let (unacceptable, over, blocking) = lists;
     let nothing = unacceptable.is_empty() && over.is_empty() && blocking.is_empty();
@@ -124,7 +124,8 @@ fn replayed(
     }
 }
 
-// How many events a replay enters, or its fault, for the first of the nineteen events followed by these events.
+// How many events a replay enters, or its fault, for the first `count` of the nineteen events, followed by these
+// events.
 fn replayed_after(alloc: Global, count: usize, more: &[Event]) -> Result<usize, ReplayFault> {
     let events = nineteen_events();
     let Ok(events) = joined(alloc, &[&events[..count.min(19)], more]) else {
@@ -189,7 +190,7 @@ fn replays_under_a_capacity(rt: HostRuntime) {
     }
 }
 
-// The events with these indices, in this order.
+// Those of the events that have these indices, in the order of the indices.
 fn chosen(alloc: Global, events: &[Event], places: &[usize]) -> Result<Vec<Event>, AllocError> {
     let mut chosen = Vec::new(alloc);
     for place in places {
@@ -256,7 +257,7 @@ fn sees_forged_lists(rt: HostRuntime) -> Result<(), Fail> {
     Ok(())
 }
 
-// How many events a replay enters that is checked against this sheet, or its fault.
+// How many events a replay enters that compares its result with this sheet, or its fault.
 fn checked(
     alloc: Global,
     members: Members,
@@ -291,7 +292,7 @@ fn checks_sheets(rt: HostRuntime) {
     assert!(rt; checked(rt.alloc(), TWO_PLACES, &nineteen_events(), &settled) == Ok(19));
 }
 
-// Whether the workers made these numbers of events. There are as many workers as numbers.
+// Whether these workers' events are counted as in `wanted`, which has a number for each worker.
 fn counts_are(alloc: Global, who: &[u8], wanted: &[u64]) -> bool {
     let Ok(workers) = u32::try_from(wanted.len()) else {
         return false;

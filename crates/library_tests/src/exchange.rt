@@ -1,4 +1,4 @@
-//! The core on two dockets, tested event by event, and on random walks.
+//! The core with two instances, tested event by event, and on random walks.
 mod mail;
 pub(super) mod run;
 mod slow;
@@ -14,7 +14,7 @@ use test_support::events::{
 };
 use test_support::instances::{Members, TWO_BY_TWO, TWO_PLACES, has_places, made};
 
-// A core with its instance, before any event between these members.
+// A core with its instance, made of these members, before any event.
 fn begin(alloc: Global, members: Members, cap: Capacity) -> Result<Run, CoreFault> {
     match made(alloc, members) {
         Ok(inst) => Run::new(alloc, inst, cap),
@@ -42,7 +42,7 @@ fn prints_its_faults(rt: HostRuntime) -> Result<(), Fail> {
     Ok(())
 }
 
-// Whether the core accepts the first events, and refuses the last event for this cause.
+// Whether the core accepts these events, and then refuses the event `last` for this cause.
 fn refuses_last(run: &mut Run, events: &[Event], last: Event, why: Refused) -> bool {
     for event in events {
         if run.step(*event).is_err() {
@@ -53,7 +53,7 @@ fn refuses_last(run: &mut Run, events: &[Event], last: Event, why: Refused) -> b
     run.may(last) == Err(why) && run.step(again) == Err(cause)
 }
 
-// Whether a new core accepts the first events, and refuses the last event for this cause.
+// Whether a new core accepts these events, and then refuses the event `last` for this cause.
 fn refuses(
     alloc: Global,
     start: (Members, Capacity),
@@ -116,8 +116,8 @@ const NO_PLACE: Option<Refused> = Some(Refused::NoPlace);
 
 const WRONG_FRONT: Option<Refused> = Some(Refused::WrongFront);
 
-// For each of the nineteen events a further event that is tried after it, and why that further event may not follow, if
-// it may not.
+// For each of the nineteen events, another event that is tried after it, and the cause for which that event may not
+// follow, if it may not.
 fn others() -> [(Event, Option<Refused>); 19] {
     [
         (offer(A, Y), None),
@@ -142,7 +142,7 @@ fn others() -> [(Event, Option<Refused>); 19] {
     ]
 }
 
-// What the core shows of programme a and resident x after each of the nineteen events.
+// What the core shows of the programme A and the resident X after each of the nineteen events.
 const SEEN: [Seen; 19] = [
     (Some(Pending::Offers(X)), Some(Y), None, None),
     (Some(Pending::Offers(X)), None, None, None),
@@ -165,7 +165,7 @@ const SEEN: [Seen; 19] = [
     (None, None, Some(B), None),
 ];
 
-// Whether the core answers as expected to the further event, shows what is expected of a and x, and is closed as
+// Whether the core answers as expected to the other event, shows what is expected of A and X, and is closed or not as
 // expected.
 fn shows(run: &Run, other: &(Event, Option<Refused>), seen: &Seen, is_closed: bool) -> bool {
     run.may(other.0).err() == other.1
@@ -173,8 +173,8 @@ fn shows(run: &Run, other: &(Event, Option<Refused>), seen: &Seen, is_closed: bo
         && run.core.is_closed() == is_closed
 }
 
-// The index of the first of the nineteen events that the core doesn't accept, or after which it doesn't show what is
-// expected.
+// The number of the first of the nineteen events, from 1, that the core doesn't accept, or after which it doesn't
+// show what is expected.
 fn first_wrong(run: &mut Run) -> Option<usize> {
     let (events, others) = (nineteen_events(), others());
     for at in 0..19_usize {
@@ -196,8 +196,8 @@ fn shows_what_is_left(rt: HostRuntime) {
     assert!(rt; is_right);
 }
 
-// Enters some event that may follow, again and again, and returns how many events there are up to the close. The result
-// is none if one of these events is refused, or if the exchange does not close.
+// Enters some event that may follow, again and again, and returns how many events there are up to the close. The
+// result is none if one of these events is refused, or if the exchange does not close.
 fn turns(run: &mut Run) -> Option<u32> {
     for turn in 0..=25 {
         let Some(event) = run.some_enabled() else {
@@ -241,14 +241,15 @@ fn events(alloc: Global, inst: &Instance) -> Result<Vec<Event>, AllocError> {
     Ok(events)
 }
 
-// Whether the core and the slow definitions agree whether this event may follow the earlier events.
+// Whether the core and the slow definitions agree about this event: that it may follow the earlier events, or for
+// which cause it may not.
 fn agrees_on_one(run: &Run, cap: Capacity, earlier: &[Event], event: Event) -> bool {
     let again = event;
     let slow = slow::refusal(&run.inst, cap, earlier, event);
     slow::is_same(run.may(again), slow)
 }
 
-// Whether the core and the slow definitions agree on each of these events after the earlier events.
+// Whether the core and the slow definitions agree about each of these events after the earlier events.
 fn agrees_after(run: &Run, cap: Capacity, earlier: &[Event], events: &[Event]) -> bool {
     for event in events {
         if !agrees_on_one(run, cap, earlier, *event) {
@@ -258,8 +259,8 @@ fn agrees_after(run: &Run, cap: Capacity, earlier: &[Event], events: &[Event]) -
     true
 }
 
-// Whether the core and the slow definitions agree after each beginning of the list of events, from the empty list to
-// the whole list.
+// Whether the core and the slow definitions agree about all events after each beginning of the list, from the empty
+// list to the whole list.
 fn agrees(run: &mut Run, cap: Capacity, events: &[Event], list: &[Event]) -> bool {
     for place in 0..=list.len() {
         let (earlier, later) = list.split_at(place);
@@ -275,7 +276,8 @@ fn agrees(run: &mut Run, cap: Capacity, events: &[Event], list: &[Event]) -> boo
     true
 }
 
-// Whether the core and the slow definitions agree in an exchange between these members.
+// Whether the core and the slow definitions agree after each beginning of this list, in an exchange between these
+// members.
 fn agrees_on(
     alloc: Global,
     members: Members,

@@ -54,7 +54,7 @@ fn mailboxes<M: Copy + Eq + Drop, R: Wait + Copy + Drop>(
     Ok((puts, takes))
 }
 
-// Enters an event by the ledger's call for events of its kind.
+// Enters an event by the ledger's call for this kind of event.
 fn enter<J: ExchangeIdentity, P: PutEnd<OfferNote>, Q: PutEnd<AnswerNote>>(
     ledger: &mut Ledger<J, P, Q>,
     inst: &Instance,
@@ -103,7 +103,7 @@ fn answers_each<J: ExchangeIdentity, P: PutEnd<OfferNote>, Q: PutEnd<AnswerNote>
     are_right
 }
 
-// Whether the journal has exactly these events, and the tally with all parts counts them.
+// Whether the journal has exactly these events, and the tally, which has all parts of the count, counts them.
 fn shows<J: ExchangeIdentity, P: PutEnd<OfferNote>, Q: PutEnd<AnswerNote>>(
     ledger: &mut Ledger<J, P, Q>,
     tally: &mut Tally<J>,
@@ -154,8 +154,8 @@ fn are_cut<J: ExchangeIdentity>(first: &Tally<J>, other: &Tally<J>) -> bool {
         && (other.worker(), other.parts(), other.entered()) == (1, 1, 0)
 }
 
-// Whether the tallies of two workers count each worker's own entries, together count all entries, and the worker of
-// each event is noted.
+// Whether the tallies of two workers each count the worker's own entries and together all entries, and the worker
+// of each event is noted.
 fn counts_apart<J: ExchangeIdentity, P: PutEnd<OfferNote>, Q: PutEnd<AnswerNote>>(
     ledger: &mut Ledger<J, P, Q>,
     inst: &Instance,
@@ -207,8 +207,8 @@ enum Trial {
     Spoiled,
 }
 
-// Whether a ledger does what this trial expects, over two ends in memory for each side, each with room for `room`
-// notes.
+// Whether a ledger does what is expected in this trial. Its ends are lists in memory, two for each side, each with
+// room for `room` notes.
 fn does<J: ExchangeIdentity>(
     alloc: Global,
     blank: Blank,
@@ -251,8 +251,8 @@ fn does<J: ExchangeIdentity>(
     }
 }
 
-// Whether a ledger of two programmes and two residents does what this trial expects, over ends with room for `room`
-// notes.
+// Whether a ledger of two programmes and two residents does what is expected in this trial, over ends with room for
+// `room` notes.
 fn small_does(alloc: Global, workers: u32, room: u32, trial: Trial) -> Result<bool, MailFault> {
     let Ok(inst) = made(alloc, TWO_BY_TWO) else {
         return Err(MailFault::Memory);
@@ -329,7 +329,7 @@ fn over_mailboxes(rt: HostRuntime) -> Result<(), Fail> {
     Ok(())
 }
 
-// Why a ledger over these ends isn't opened, and how many ends come back. The programmes have two ends.
+// Why no ledger is opened over these ends, and how many ends come back. There are two ends for programmes.
 fn not_opened<J: ExchangeIdentity>(
     alloc: Global,
     blank: Blank,

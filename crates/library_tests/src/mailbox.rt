@@ -234,7 +234,7 @@ fn pass_on<R: Wait + Copy>(
     (take, put)
 }
 
-// The numbers that went from one thread to another.
+// The numbers that went through a mailbox from one thread to another.
 fn relayed<R: Threads + Wait + Sync + Send + Copy>(
     rt: R,
     alloc: Global,
@@ -275,7 +275,7 @@ fn relay_one_by_one(rt: HostRuntime) -> Result<(), Fail> {
     Ok(())
 }
 
-// The numbers that one mailbox brought to another thread, and that a second mailbox brought back.
+// The numbers that went through one mailbox to another thread, and through a second mailbox back.
 fn returned<R: Threads + Wait + Sync + Send + Copy>(
     rt: R,
     alloc: Global,

@@ -68,7 +68,8 @@ fn two_and_three(alloc: Global) -> Result<InstanceBuilder, ModelFault> {
     Ok(builder)
 }
 
-// An instance with the mutual parts of a programme's list and of the lists of two residents.
+// An instance in which a programme and two residents list each other and others, so that it has only the mutual parts
+// of these lists.
 fn mutual_parts(alloc: Global) -> Result<Instance, ModelFault> {
     let mut builder = two_and_three(alloc)?;
     builder.programme_list(A, &[Z, X, Y])?;
@@ -177,8 +178,8 @@ fn reads_the_list_of_whoever_is_withdrawn(rt: HostRuntime) -> Result<(), Fail> {
     Ok(())
 }
 
-// Two programmes and three residents with all their lists. Some of them are withdrawn, before or after the lists are
-// given.
+// Two programmes and three residents with all their lists. These members are withdrawn before the lists are given if
+// `first` is set, else after it.
 fn without(
     alloc: Global,
     first: bool,
@@ -202,7 +203,7 @@ fn without(
 }
 
 // Gives the lists. The first programme and all three residents rank each other. The second programme ranks two
-// residents, and only one of these ranks it.
+// residents, of whom only one ranks it.
 fn add_lists(builder: &mut InstanceBuilder) -> Result<(), ModelFault> {
     builder.programme_list(A, &[X, Y, Z])?;
     builder.programme_list(B, &[Z, X])?;
@@ -211,8 +212,7 @@ fn add_lists(builder: &mut InstanceBuilder) -> Result<(), ModelFault> {
     builder.resident_list(Z, &[A])
 }
 
-// Whether exactly these members, of two programmes and three residents, are withdrawn, and this number of acceptable pairs
-// remains.
+// Whether exactly these of two programmes and three residents are withdrawn, and this many acceptable pairs remain.
 fn is_left(instance: &Instance, pairs: u32, programmes: [bool; 2], residents: [bool; 3]) -> bool {
     if instance.programmes() != 2 || instance.residents() != 3 {
         return false;

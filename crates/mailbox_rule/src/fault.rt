@@ -5,7 +5,7 @@ ghost use Rattle.mailbox_rule.specs.declared.fault.MailFault.TheVariants.{Memory
 use std::alloc::AllocError;
 use thiserror::Error;
 
-/// Why no mailbox was made, or no list that stands in for a mailbox in tests.
+/// Why no mailbox was made, or no list in memory that stands in for one in tests.
 #[derive(Clone, Copy, PartialEq, Eq, Debug, Drop, Error)]
 pub enum MailFault {
     /// The mailbox would have room for no message.

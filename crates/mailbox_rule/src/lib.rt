@@ -1,4 +1,5 @@
-//! Bounded mailboxes under this rule: the messages taken out of a mailbox are a beginning of the messages put into it.
+//! Bounded mailboxes with this rule: the messages that were taken out of a mailbox are the first of those that were
+//! put into it.
 #![tactic(auto)]
 
 mod ends;

@@ -1,5 +1,5 @@
-//! The rule of a mailbox. The messages put are the messages taken, followed by the waiting messages, and at most
-//! `capacity` messages wait. No value of these types is ever made. The types describe what a proof knows.
+//! The rule of a mailbox: the messages put are the messages taken, followed by the waiting messages, and at most
+//! `capacity` messages wait. No value of these types is ever made; they describe what a proof knows.
 ghost use Rattle.std.specs.Prelude.{◌≡◌, ◌≤◌, true, false, [], ◌∷◌, ◌++◌, length};
 ghost use Rattle.mailbox_rule.specs.Rule.{known, IsInOrder};
 
@@ -7,7 +7,7 @@ use crossbeam_channel::protocol::{Join, Lesson, Outcome, Protocol, Split};
 use std::collections::LinkedList;
 use std::marker::Brand;
 
-/// What the proof knows for one end of the channel: whether this end may put, whether it may take, the capacity, and
+/// What a proof knows for one end of the channel: whether this end may put, whether it may take, the capacity, and
 /// the messages that it put and took.
 pub struct Known<M> {
     pub may_put: bool,
@@ -29,8 +29,8 @@ impl<M> Protocol<M, Known<M>> for InOrder {
     ghost first = { known true true 0 [] [] };
 }
 
-// How the knowledge of a new channel is split into that of the sending end and that of the receiving end. The caller
-// chooses the capacity.
+// How the knowledge of a new channel is split into that for the sending end and that for the receiving end. The
+// caller chooses the capacity.
 impl<M> Split<Known<M>> for Brand {
     ghost use Rattle.std.specs.Prelude.{true, false, []};
     ghost use Rattle.mailbox_rule.specs.Rule.{known};
@@ -40,7 +40,7 @@ impl<M> Split<Known<M>> for Brand {
     ghost right = { λ h. known false true 0 [] h.taken };
 }
 
-// How the knowledge of the receiving end is joined with that of the sending end, and split off again.
+// How the knowledge for the receiving end is joined with that for the sending end, and split off again.
 pub struct Sides;
 
 impl<M> Split<Known<M>> for Sides {

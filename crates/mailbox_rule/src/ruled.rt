@@ -88,7 +88,7 @@ pub fn mailbox<M: Copy + Eq, R: Wait + Copy>(
 impl<M: Copy, R: Wait + Copy> PutEnd<M> for RuledPut<M, R> {
     ghost puts = { λ end. end.puts };
 
-    // A put finds no room only if the number of messages put so far is at least the capacity.
+    // A put finds no room only if at least as many messages were put so far as the capacity is.
     ghost may_fill = { λ end. end.room ≤ length end.puts };
 
     ghost may_go = { λ _. Unit {0} };
@@ -133,7 +133,7 @@ impl<M: Copy, R: Wait + Copy> TakeEnd<M> for RuledTake<M, R> {
     }
 }
 
-/// Shows that the messages taken are a beginning of the messages put, and returns both ends.
+/// Shows that the messages taken are the first of the messages put, and returns both ends.
 pub fn agree<M: Copy, R: Wait + Copy>(
     put: RuledPut<M, R>,
     take: RuledTake<M, R>,

@@ -13,7 +13,7 @@ module _ {T : Type 0} where
   abbrev pub opened_programme : Instance → ℕ → T → ProgrammeDesk T
   opened_programme inst p end = record { programme = p; end = end; heard = []; room = 2 * length (list_of_programme inst p); offered = 0 }
 
-  -- the desk after it heard one more answer, with the receiving end as it is after that answer
+  -- the desk after it heard one more answer; its receiving end is now this one
   abbrev pub heard_answer : ProgrammeDesk T → T → Answered → ProgrammeDesk T
   heard_answer desk end answer = record desk { end = end; heard = desk.heard ++ answer ∷ [] }
 
@@ -24,7 +24,7 @@ module _ {T : Type 0} where
       else None
 
   -- The wish is the programme's next offer, after any list of events that fits the desk. A list fits if it has no
-  -- close, and has the answers that the desk heard and as many offers as the desk made.
+  -- close, and has the answers that the desk heard and as many offers by the programme as the desk made.
   abbrev pub IsNextOffer : Instance → ProgrammeDesk T → Option ℕ → Type 0
   IsNextOffer inst desk wish = (j : List Event) → is_closed j ≡ false → desk.heard ≡ hears desk.programme j
       → desk.offered ≡ length (offers_of desk.programme j) → wish ≡ next_offer inst j desk.programme

@@ -8,7 +8,7 @@ use Rattle.exchange_core.specs.Calls.{calls, best_of, release_of}
 use Rattle.exchange_core.specs.Refusal.{is_nil}
 use Rattle.match_agents.specs.Desks.{ResidentDesk}
 
--- the list ends with these items
+-- the second list ends with the first one
 abbrev pub IsSuffix : {X : Type 0} → List X → List X → Type 0
 IsSuffix xs ys = drop (length ys - length xs) ys ≡ xs
 
@@ -16,7 +16,7 @@ IsSuffix xs ys = drop (length ys - length xs) ys ≡ xs
 abbrev pub without_last : {X : Type 0} → List X → List X
 without_last xs = take (length xs - 1) xs
 
--- the answers due are those to the last of these offers
+-- the answers due are those to the last of these offers, which come after the answers to the offers before it
 abbrev pub IsCalledByLast : List ℕ → List ℕ → List Answered → Type 0
 IsCalledByLast ranking offers due = calls ranking offers ≡ calls ranking (without_last offers) ++ due
 
@@ -30,24 +30,25 @@ abbrev pub with_place : List ℕ → Option ℕ → Option (ℕ × ℕ)
 with_place ranking None = None
 with_place ranking (Some p) = Some (p, place ranking p)
 
--- the programme of a programme with its position, if there is one
+-- the programme of a pair of a programme and its position, if there is a pair
 abbrev pub programme_in : Option (ℕ × ℕ) → Option ℕ
 programme_in None = None
 programme_in (Some (p, place)) = Some p
 
--- the position of an offer, if it is better than the best position so far
+-- the position of an offer, if there is one and it is before the best offer's, or if there is no best offer; else
+-- none
 abbrev pub better_place : Option ℕ → Option (ℕ × ℕ) → Option ℕ
 better_place None best = None
 better_place (Some place) None = Some place
 better_place (Some place) (Some (p, best)) = if nat_lt place best then Some place else None
 
--- The answers to an offer by p. An offer better than the best so far gets `hold`, and the best so far then gets
--- `release`. Any other offer gets `decline`.
+-- The answers to an offer by p. With a position, it is better than the best offer so far: it gets `hold`, and the
+-- best so far gets `release`. Without one it gets `decline`.
 abbrev pub called_for : ℕ → Option ℕ → Option (ℕ × ℕ) → List Answered
 called_for p None best = (p, Decline) ∷ []
 called_for p (Some place) best = (p, Hold) ∷ release_of (programme_in best)
 
--- the best offer after p's offer is decided: p's offer, if p has the better position
+-- the best offer after p's offer is decided: p's if there is a position, else the best offer so far
 abbrev pub best_with : ℕ → Option ℕ → Option (ℕ × ℕ) → Option (ℕ × ℕ)
 best_with p None best = best
 best_with p (Some place) best = Some (p, place)
@@ -69,11 +70,12 @@ module _ {T : Type 0} where
   abbrev pub is_ready : ResidentDesk T → Bool
   is_ready desk = not desk.undecided && is_nil desk.due
 
-  -- the desk after it took one more offer, which is still undecided, with the receiving end as it is after that offer
+  -- the desk after it took one more offer, which is still undecided; its receiving end is now this one
   abbrev pub took_offer : ResidentDesk T → T → ℕ → ResidentDesk T
   took_offer desk end p = record desk { end = end; taken = desk.taken ++ p ∷ []; undecided = true }
 
-  -- the desk after its last taken offer, which came from p, was decided
+  -- the desk after its last taken offer, which p made, was decided: the position is none if the offer isn't better
+  -- than the best so far
   abbrev pub decided_offer : ResidentDesk T → ℕ → Option ℕ → ResidentDesk T
   decided_offer desk p place = record desk { undecided = false; due = called_for p place desk.best; best = best_with p place desk.best }
 
@@ -85,8 +87,8 @@ module _ {T : Type 0} where
   abbrev pub decided : ResidentDesk T → List ℕ
   decided desk = if desk.undecided then without_last desk.taken else desk.taken
 
-  -- The desk is that of a resident of the instance. The desk has room for all offers that can ever come. Its best offer
-  -- is the best of the decided offers. The desk owes the last answers that the decided offers call for, at most two.
+  -- The desk is that of a resident of the instance, with room for all offers that can ever come. Its best offer is
+  -- the best of the decided offers. It owes the last answers that the decided offers call for, at most two.
   pub record IsResidentAgentOf (inst : Instance) (desk : ResidentDesk T) : Type 0 where
     pub member : IsResident inst desk.resident
     pub room_for_all : desk.room ≡ length (list_of_resident inst desk.resident)

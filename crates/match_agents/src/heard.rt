@@ -13,7 +13,8 @@ pub enum Heard<M> {
     LogFull,
 }
 
-/// An agent could not be made, since there was no memory for its log. The mailbox's end comes back unchanged.
+/// An agent could not be made, because there was no memory for its log. The mailbox's end comes back
+/// unchanged.
 #[derive(Debug, Drop)]
 pub struct AgentRefused<T> {
     /// The mailbox's end that was given for the agent.

@@ -13,7 +13,8 @@ use Rattle.settle_law.proofs.Placements.{member_within, holds_true}
 use Rattle.match_audit.specs.declared.load.Load.{Load}
 use Rattle.match_audit.specs.Loads.{IsLoadOf, AreLoads}
 
--- the members of programme p, after one more entry of the placement
+-- a member of programme p after one more entry of the placement was a member before, or is the
+-- resident of this entry
 pub member_push : (m : List (Option ℕ)) (x : Option ℕ) (s p : ℕ) → IsMemberOf (m ++ x ∷ []) s p →
     IsMemberOf m s p ⊎ ((s ≡ length m) × (x ≡ Some p))
 member_push m x s p h = elim (cases_lt s (length m)) [
@@ -38,7 +39,7 @@ holds_false : (p : ℕ) (x : Option ℕ) → (x ≡ Some p → ⊥) → holds p 
 holds_false p None n = refl
 holds_false p (Some q) n = ne_eqb q p (λ e. n (ap Some e))
 
--- the load of a programme in a placement without entries
+-- in a placement without entries, programme p has no members and 0 as the last place
 IsLoadOf-none : (inst : Instance) (p : ℕ) → IsLoadOf inst [] p (record { members = 0; worst = 0 })
 IsLoadOf-none inst p = record {
   members = refl;
@@ -62,7 +63,7 @@ IsLoadOf-other inst m x p load h n = record {
     still : (b : Bool) → b ≡ false → member_count m p + cond b 1 0 ≡ member_count m p
     still b e = rw e (omega arith)
 
--- the load after one more member, who stands at this place of the programme's list
+-- the load with one member more, who stands at this place of the programme's list
 abbrev pub loaded : Load → ℕ → Load
 loaded load at = record { members = load.members + 1; worst = max load.worst at }
 

@@ -9,7 +9,7 @@ use Rattle.match_model.specs.Instance.{rank}
 use Rattle.match_model.proofs.Rankings.{place-le, is_listed-true, is_listed-false, is_listed_not}
 use Rattle.match_model.proofs.Listed.{place-append, place-append_past}
 
--- the rank of a listed number is its place, and a number that isn't listed has no rank
+-- if o is x's rank on a list, then x is listed and o is its place, or x isn't listed and o is none
 pub rank_parts : (xs : List ℕ) (x : ℕ) (o : Option ℕ) → o ≡ rank xs x → ((k : ℕ) × (o ≡ Some k) × IsListed xs x × (place xs x ≡ k)) ⊎ ((o ≡ None) × (IsListed xs x → ⊥))
 rank_parts xs x o e = go (is_listed xs x) refl
   where

@@ -18,7 +18,6 @@ pub record Lists (R : ℕ → ℕ → Type 0) (pairs : List (ℕ × ℕ)) : Type
 abbrev pub ListsNumbers : (ℕ → Type 0) → List ℕ → Type 0
 ListsNumbers R numbers = IsStrictlyIncreasing numbers × ((n : ℕ) → Contains numbers n ↔ R n)
 
--- the list is the beginning of the owner's ranking: all members that the owner would rather have than the programme
--- held
+-- the list has those members of the owner's ranking that the owner would rather have than the held programme
 abbrev pub IsPreferredFront : List ℕ → Option ℕ → List ℕ → Type 0
 IsPreferredFront ranking held front = (p : ℕ) → IsListed front p ↔ (IsListed ranking p × Prefers ranking p held)

@@ -5,7 +5,8 @@ use Rattle.match_model.specs.Instance.{Instance, list_of_programme}
 use Rattle.match_model.specs.Placement.{IsMemberOf, member_count}
 use Rattle.match_audit.specs.declared.load.Load.{Load}
 
--- how many members p has, and the last position of a member of p in p's list
+-- how many members p has, and the last of their positions in p's list, counted from 0; 0 if p has
+-- no members
 pub record IsLoadOf (inst : Instance) (m : List (Option ℕ)) (p : ℕ) (load : Load) : Type 0 where
   pub members : load.members ≡ member_count m p
   pub worst : (k : ℕ) → (k < load.worst) ↔ ((s : ℕ) × IsMemberOf m s p × (k < place (list_of_programme inst p) s))

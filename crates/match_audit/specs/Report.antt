@@ -14,7 +14,8 @@ IsUnacceptable inst m r p = IsMemberOf m r p × ¬ Acceptable inst r p
 abbrev pub IsOver : Instance → List (Option ℕ) → ℕ → ℕ → Type 0
 IsOver inst m p n = IsProgramme inst p × (member_count m p ≡ n) × (quota inst p < n)
 
--- the report has exactly what keeps the placement from being stable
+-- the report lists exactly the unacceptable pairs, the programmes over their quotas, and the
+-- blocking pairs of the placement
 pub record Reports (inst : Instance) (m : List (Option ℕ)) (report : AuditReport) : Type 0 where
   pub is_instance : IsInstance inst
   pub one_place_each : length m ≡ length inst.resident_lists
@@ -22,6 +23,6 @@ pub record Reports (inst : Instance) (m : List (Option ℕ)) (report : AuditRepo
   pub over : Lists (IsOver inst m) report.over.items
   pub blocking : Lists (Blocks inst m) report.blocking.items
 
--- the answer is whether the placement is stable, for every placement with this report
+-- for every placement with this report, the answer is whether the placement is stable
 abbrev pub TellsStability : AuditReport → Bool → Type 0
 TellsStability report answer = (inst : Instance) (m : List (Option ℕ)) → Reports inst m report → IsTrue answer ↔ IsStable inst m

@@ -8,7 +8,7 @@ use Rattle.exchange_core.specs.Shown.{Shows}
 use Rattle.settle_law.specs.Stable.{IsSettled}
 use Rattle.match_audit.specs.Replay.{IsFirstDifference}
 
--- some legal list of events leaves this at the desks, in an exchange with the capacity `full`
+-- with the capacity `full`, this is left at the desks after some legal list of events
 abbrev pub IsReached : Instance → Left → Type 0
 IsReached inst left = (j : List Event) × Shows inst Full j left
 

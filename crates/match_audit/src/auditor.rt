@@ -39,9 +39,9 @@ impl From<AllocError> for AuditFault {
     }
 }
 
-/// Finds the unacceptable pairs, the programmes over their quota and the blocking pairs. For a programme, a resident
-/// whom it doesn't list ranks below every resident on its list; the same is true for residents. The placement may have
-/// any number in place of a programme.
+/// Finds the unacceptable pairs, the programmes over their quota and the blocking pairs. A resident whom a programme
+/// doesn't list ranks below all on its list, and so for residents' lists. In the placement any number may stand in
+/// place of a programme's.
 pub fn audit(
     alloc: Global,
     inst: &Instance,

@@ -39,7 +39,8 @@ fn is_acceptable(inst: &Instance, resident: ResidentNo, programme: ProgrammeNo) 
     requires { IsResident inst.now resident }
     ensures { IsTrue result ↔ Acceptable inst.now resident programme }
 {
-    // For the proof alone: if a resident ranks a programme, the programme ranks the resident.
+    // Only the proof needs this call: by its clause, if a resident ranks a programme, the programme ranks the
+    // resident.
     let _residents = inst.residents();
     inst.rank_at_resident(resident, programme).is_some()
 }
@@ -126,9 +127,8 @@ fn blocking_programmes(
     Ok(programmes)
 }
 
-/// The programmes that a resident prefers to the programme held. These programmes are the beginning of the resident's
-/// list, up to the programme held. If the programme held isn't on the list, or no programme is held, these programmes
-/// are the whole list.
+/// The programmes that a resident prefers to the held one: the beginning of the resident's list, up to the held
+/// programme. If the held programme isn't on the list, or none is held, this is the whole list.
 fn preferred(inst: &Instance, resident: ResidentNo, held: Option<ProgrammeNo>) -> &[ProgrammeNo]
     requires instance { IsInstance inst.now }
     requires member { IsResident inst.now resident }
@@ -145,7 +145,7 @@ fn preferred(inst: &Instance, resident: ResidentNo, held: Option<ProgrammeNo>) -
     }
 }
 
-/// Whether a programme has a free place, or has a member who stands behind this resident on its list.
+/// Whether a programme has a free place, or a member who stands behind this resident on its list.
 fn has_room_for(
     inst: &Instance,
     loads: &[Load],

@@ -7,7 +7,7 @@ ghost use Rattle.match_audit.specs.Loads.{AreLoads};
 use match_model::{Assignment, Instance, ProgrammeNo, ResidentNo};
 use std::alloc::{AllocError, Global};
 
-/// How many members a programme has, and at which place of its list its last-ranked member stands.
+/// How many members a programme has, and the last place on its list at which one of them stands.
 #[derive(Clone, Copy, Debug, Default)]
 pub(crate) struct Load {
     pub(crate) members: u32,
@@ -51,7 +51,7 @@ pub(crate) fn place_at(inst: &Instance, programme: ProgrammeNo, resident: Reside
     }
 }
 
-/// The load of each programme.
+/// For each programme, how many members it has and the last place of one of them.
 pub(crate) fn loads(
     alloc: Global,
     inst: &Instance,

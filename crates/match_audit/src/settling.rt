@@ -24,7 +24,7 @@ pub fn settle(alloc: Global, inst: &Instance) -> Result<Assignment, AuditFault>
     ensures settled { IfOk result (IsSettled inst.now) }
     ensures memory { IfErr result (λ fault. fault ≡ AuditFault.Memory) }
 {
-    // A closed legal list of events leads to a stable and settled assignment.
+    // Only the proof needs this call: a closed legal list of events leads to a stable and settled assignment.
     law_settled();
     let Ok(mut core) = Core::new(alloc, inst, Capacity::Full) else {
         return Err(AuditFault::Memory);
@@ -60,7 +60,7 @@ pub fn is_result(alloc: Global, inst: &Instance, sheet: &Assignment) -> Result<b
     ensures exact { IfOk result (λ yes. IsTrue yes ↔ IsSettled inst.now sheet.now) }
     ensures memory { IfErr result (λ fault. fault ≡ AuditFault.Memory) }
 {
-    // An instance has only one settled assignment.
+    // Only the proof needs this call: an instance has only one settled assignment.
     law_one_settled();
     match first_unlike_result(alloc, inst, sheet) {
         Ok(None) => Ok(true),
@@ -69,9 +69,9 @@ pub fn is_result(alloc: Global, inst: &Instance, sheet: &Assignment) -> Result<b
     }
 }
 
-/// Lets each programme offer down its list. If a resident releases a programme, the released programme offers next. So
-/// at the end no programme should have a wish. No clause relies on this: `step_to_the_close` enters whatever events are
-/// left.
+/// Lets each programme make offers down its list. If a resident releases a programme, that programme offers next, so
+/// that at the end no programme should have a wish. No clause relies on this: `step_to_the_close` enters whatever
+/// events are left.
 fn offer_down_the_lists(core: &mut Core, inst: &Instance)
     requires core { IsCoreOf inst.now core.old }
     requires reached { IsReached inst.now core.old }
@@ -80,7 +80,7 @@ fn offer_down_the_lists(core: &mut Core, inst: &Instance)
 {
     for p in 0..inst.programmes() {
         let mut programme = ProgrammeNo(p);
-        // Each turn enters an offer, or ends a chain of released programmes.
+        // Each turn enters an offer, or ends a chain of programmes that were released one after another.
         for _turn in 0..2 * inst.pairs() + 1 {
             match offer_once(core, inst, programme) {
                 Some(answered) => programme = answered,
@@ -121,8 +121,8 @@ fn offer_once(core: &mut Core, inst: &Instance, programme: ProgrammeNo) -> Optio
     }
 }
 
-/// Enters the first answer that a resident owes, and the hear of this answer. Returns the programme that heard the
-/// answer. The result is none if no answer is due, or if one of the two events may not follow.
+/// Enters the first answer that a resident owes, and the hear of this answer. Returns the programme that heard it.
+/// The result is none if no answer is due, or if one of the two events may not follow.
 fn answer_once(core: &mut Core, inst: &Instance, resident: ResidentNo) -> Option<ProgrammeNo>
     requires core { IsCoreOf inst.now core.old }
     requires reached { IsReached inst.now core.old }
@@ -159,8 +159,7 @@ fn goes_on(core: &mut Core, inst: &Instance, event: Event) -> bool
     core.step(inst, event).is_ok()
 }
 
-/// Enters events until the exchange is closed. The number of these events is at most the number of events that a legal
-/// list can have.
+/// Enters events until the exchange is closed. There are at most as many turns as a legal list has events.
 fn step_to_the_close(core: &mut Core, inst: &Instance)
     requires core { IsCoreOf inst.now core.old }
     requires reached { IsReached inst.now core.old }

@@ -16,7 +16,7 @@ use Rattle.match_model.specs.Owners.{kept_lists}
 use Rattle.match_model.specs.Rows.{RowLists}
 use Rattle.match_model.proofs.Entered.{length-kept_lists, get_or-kept_lists}
 
--- no items are never above the limit, and items above a limit are still above it when more items come
+-- no items are more than a limit
 pub over_none : (most : Option ℕ) → are_over most 0 ≡ false
 over_none None = refl
 over_none (Some n) = grind (arith, nat_tests)
@@ -31,7 +31,7 @@ pub record AreGathered (made : List (List ℕ)) (k : ℕ) (kept : RowLists ℕ) 
   pub none_begun : kept.begun ≡ []
   pub counted : items ≡ sum_by length (take k made)
 
--- the rows and the number of items after one more finished list
+-- after one more finished list there is one more row, with as many items more as the list has
 module _ (all rows : List (List ℕ)) (i : ℕ) (within : i < length all) (list row : List ℕ) (here : list ≡ list_at all i) (at : row ≡ list_at rows i) (before kept after : RowLists ℕ) where
   rows_more : before.rows ≡ take i (kept_lists all rows) → before.begun ≡ [] → kept ≡ record before { begun = before.begun ++ filter (is_listed row) list }
       → after ≡ record { rows = kept.rows ++ kept.begun ∷ []; begun = [] } → after.rows ≡ take (i + 1) (kept_lists all rows)

@@ -84,7 +84,8 @@ fewer_kept q (x ∷ xs) = step (q x) (fewer_kept q xs)
     step true h = omega arith
     step false h = omega arith
 
--- a mutual list has at most as many items as the other side has members
+-- a mutual list has at most as many items as the other side has members, if the lists have neither
+-- repeats nor numbers from n on
 length_at : (mine theirs : List (List ℕ)) (i n : ℕ) → All (λ list. has_no_repeats list ≡ true) mine → All (λ list. list_all (λ x. ltb x n) list ≡ true) mine → length (list_at (mutual_lists mine theirs) i) ≤ n
 length_at mine theirs i n distinct below =
     let short : length (list_at mine i) ≤ n = length-le_below (list_at mine i) n (at_list (λ list. has_no_repeats list ≡ true) mine i refl distinct) (at_list (λ list. list_all (λ x. ltb x n) list ≡ true) mine i refl below) in
@@ -109,12 +110,12 @@ pub resident_lists_short : (d : Draft) → IsDraft d → All (λ (list : List �
 resident_lists_short d h = λ r other within.
     subst (λ (list : List ℕ). length list ≤ MAX_PAIRS) (get_or_default (instance_of d).resident_lists r [] other within) (resident_list_short d r h)
 
--- the instance has as many residents' lists as the draft, and as many programmes' lists
+-- the instance has as many residents' lists as the draft
 pub as_many_residents : (d : Draft) → length (instance_of d).resident_lists ≡ length d.resident_lists
 as_many_residents d =
     length-mutual_lists (resident_lists_left d) (programme_lists_left d) ∙ length-remaining_lists (given_lists d.resident_lists) d.residents_withdrawn ∙ length-map d.resident_lists (λ list. unwrap_or list [])
 
--- a withdrawn member lists nobody in the instance
+-- a withdrawn programme's list in the instance is empty
 withdrawn_programme : (d : Draft) (p : ℕ) → is_withdrawn d.programmes_withdrawn p ≡ true → list_of_programme (instance_of d) p ≡ []
 withdrawn_programme d p e =
     mutual_list_at (programme_lists_left d) (resident_lists_left d) p

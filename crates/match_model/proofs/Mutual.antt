@@ -31,14 +31,14 @@ list_all_at n (x ∷ xs) (suc k) e h = list_all_at n xs k (rest (ltb x n) e) (om
         false≢true : false ≡ true → ⊥
         false≢true e = cc
 
--- there are as many given lists as members, and the list of a member is the list that was given or empty
+-- there is one given list for each member
 pub length-given_lists : (lists : List (Option (List ℕ))) → length (given_lists lists) ≡ length lists
 length-given_lists lists = length-map lists (λ list. unwrap_or list [])
 
 pub given_at : (lists : List (Option (List ℕ))) (i : ℕ) → i < length lists → list_at (given_lists lists) i ≡ unwrap_or (get_or lists i None) []
 given_at lists i h = get_or-map (λ (list : Option (List ℕ)). unwrap_or list []) lists i None [] h
 
--- there are as many remaining lists as members, and the list of a member is the given list or empty
+-- there is one remaining list for each member
 pub length-lists_left : (lists : List (Option (List ℕ))) (flags : List Bool) → length (lists_left lists flags) ≡ length lists
 length-lists_left lists flags = length-remaining_lists (given_lists lists) flags ∙ length-given_lists lists
 
@@ -53,7 +53,7 @@ pub length-mutual_lists : (mine theirs : List (List ℕ)) → length (mutual_lis
 unfolding mutual_lists
 length-mutual_lists mine theirs = length-map (enumerate_from 0 mine) (λ (owned : ℕ × List ℕ). filter (λ x. is_listed (list_at theirs x) owned.0) owned.1) ∙ length-enumerate_from 0 mine
 
--- the items of a list on whose own lists the owner stands
+-- the items of a list on whose own lists the owner of the list stands
 abbrev kept_of : List (List ℕ) → ℕ × List ℕ → List ℕ
 kept_of theirs owned = filter (λ x. is_listed (list_at theirs x) owned.0) owned.1
 

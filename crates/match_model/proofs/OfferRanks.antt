@@ -8,11 +8,12 @@ use Rattle.match_model.specs.Rows.{RowLists}
 use Rattle.match_model.proofs.Rankings.{is_listed_at, is_listed-true, is_listed_from}
 use Rattle.match_model.proofs.RankTables.{table_at, length_tables, rank_listed}
 
--- finished rows, followed by an open row
+-- finished rows, and a row that is still open
 abbrev with_begun : List (List ℕ) → List ℕ → RowLists ℕ
 with_begun rows begun = record { rows = rows; begun = begun }
 
--- the ranks for the first i + 1 residents of a list, after one more rank is added
+-- the stored ranks of the first i + 1 residents of a list are those of the first i, and the rank at
+-- the next one's list
 pub ranks_more : (theirs : List (List ℕ)) (p i k : ℕ) (list : List ℕ) (first before after : RowLists ℕ) → i < length list → before ≡ record first { begun = first.begun ++ ranks_of theirs p (take i list) }
     → after ≡ record before { begun = before.begun ++ k ∷ [] } → k ≡ place (list_at theirs (get_or list i 0)) p → after ≡ record first { begun = first.begun ++ ranks_of theirs p (take (i + 1) list) }
 ranks_more theirs p i k list first before after h begun pushed here =

@@ -10,7 +10,7 @@ pub last_within : (start : ℕ) (ends : List ℕ) (n : ℕ) → AreEnds start en
 last_within start [] n h = h
 last_within start (e ∷ es) n h = last_within e es n h.1
 
--- the first row starts within the list
+-- the first row starts within the list: its start is at most the list's length
 pub start_within : (start : ℕ) (ends : List ℕ) (n : ℕ) → AreEnds start ends n → start ≤ n
 start_within start [] n h = h
 start_within start (e ∷ es) n h = let rest = start_within e es n h.1 in let first = h.0 in omega arith
@@ -20,7 +20,7 @@ pub AreEnds-weaker : (start : ℕ) (ends : List ℕ) (n m : ℕ) → n ≤ m →
 AreEnds-weaker start [] n m l h = omega arith
 AreEnds-weaker start (e ∷ es) n m l h = (h.0, AreEnds-weaker e es n m l h.1)
 
--- the ends of rows after one more row, which has all remaining items
+-- the ends of rows are still right after one more row, which has all remaining items
 pub AreEnds-push : (start : ℕ) (ends : List ℕ) (n : ℕ) → AreEnds start ends n → AreEnds start (ends ++ n ∷ []) n
 AreEnds-push start [] n h = (h, omega arith)
 AreEnds-push start (e ∷ es) n h = (h.0, AreEnds-push e es n h.1)
@@ -58,7 +58,8 @@ module _ {T : Type 0} where
   row_there (r ∷ rs) zero k h = omega arith
   row_there (r ∷ rs) (suc i) k h = let rest = row_there rs i k h in omega arith
 
-  -- the first n items of a list, after item k of the list is overwritten
+  -- to overwrite item k of a list and take its first n items is to take these and overwrite item k
+  -- among them
   take_set : (n : ℕ) (xs : List T) (k : ℕ) (y : T) → take n (set xs k y) ≡ set (take n xs) k y
   take_set zero xs k y = refl
   take_set (suc n) [] k y = refl

@@ -39,7 +39,8 @@ rank_missing list x e = split (is_listed list x) e
     split true h = cc
     split false h = refl
 
--- the entries for the first i + 1 numbers of a row, if number i is listed
+-- if number i of a row has a rank on the list, the table of the first i + 1 numbers is that of the
+-- first i and the entry of this number
 pub ranked_keeps : (list row : List ℕ) (i p : ℕ) → i < length row → Some p ≡ rank list (get_or row i 0) → ranked list (take (i + 1) row) ≡ ranked list (take i row) ++ (get_or row i 0, p) ∷ []
 ranked_keeps list row i p h e =
     let found = rank_some list (get_or row i 0) p e in
@@ -139,7 +140,7 @@ length_tables [] (t ∷ ts) all = absurd all
 length_tables (l ∷ ls) [] all = absurd all
 length_tables (l ∷ ls) (t ∷ ts) all = ap suc (length_tables ls ts all.1)
 
--- the tables of the lists, after one more list and its table
+-- if each list has its table, each still has it after one more list and its table
 pub tables_push : (lists : List (List ℕ)) (tables : List (List Entry)) (list : List ℕ) (table : List Entry) → AllZip IsRankTable lists tables → IsRankTable list table → AllZip IsRankTable (lists ++ list ∷ []) (tables ++ table ∷ [])
 tables_push [] [] list table all one = (one, tt)
 tables_push [] (t ∷ ts) list table all one = absurd all

@@ -11,7 +11,7 @@ use Rattle.match_model.specs.Ranking.{place, is_listed, HasNoRepeats, IsListed}
 use Rattle.match_model.specs.Instance.{rank}
 use Rattle.match_model.specs.Draft.{has_no_repeats}
 
--- the place of a number in a list that begins with this number, and in a list that begins with another number
+-- the place of a number in a list that begins with this number is 0
 pub place-cons_same : (y x : ℕ) (ys : List ℕ) → y ≡ x → place (y ∷ ys) x ≡ 0
 place-cons_same y x ys e = grind arith
 
@@ -31,7 +31,7 @@ place_past [] x none = refl
 place_past (y ∷ ys) x none =
     place-cons_other y x ys (none 0 (omega arith)) ∙ ap (λ n. 1 + n) (place_past ys x (λ k l. none (suc k) (omega arith))) ∙ one-add (length ys)
 
--- the walk finds the rank of a number, or that the number has no rank
+-- if the first item equal to x stands at index i, the rank of x is i
 pub rank_found : (xs : List ℕ) (x i : ℕ) → i < length xs → get_or xs i 0 ≡ x → ((k : ℕ) → k < i → get_or xs k 0 ≢ x) → Some i ≡ rank xs x
 rank_found xs x i h e none = let p : place xs x ≡ i = place_is xs x i h e none in grind arith
 
@@ -67,7 +67,7 @@ is_listed-any (y ∷ ys) x = step y x ys (is_listed-any ys x)
     step : (y x : ℕ) (ys : List ℕ) → is_listed ys x ≡ list_any (λ z. eqb z x) ys → is_listed (y ∷ ys) x ≡ list_any (λ z. eqb z x) (y ∷ ys)
     step y x ys h = grind arith
 
--- which numbers are listed, after one more item in front or at the end
+-- a number is in a list with one more item in front exactly if it equals this item or is in the rest
 pub is_listed-cons : (y : ℕ) (ys : List ℕ) (x : ℕ) → is_listed (y ∷ ys) x ≡ eqb y x || is_listed ys x
 is_listed-cons y ys x = is_listed-any (y ∷ ys) x ∙ ap (λ b. eqb y x || b) (sym (is_listed-any ys x))
 
@@ -84,7 +84,7 @@ is_listed-append (z ∷ xs) ys x =
 pub is_listed_alone : (y x : ℕ) → is_listed (y ∷ []) x ≡ eqb y x
 is_listed_alone y x = grind arith
 
--- a number that a walk finds is listed, and a number that no walk finds isn't
+-- if the item at an index of the list is x, then x is listed
 pub is_listed_at : (xs : List ℕ) (x i : ℕ) → i < length xs → get_or xs i 0 ≡ x → is_listed xs x ≡ true
 is_listed_at [] x i h e = absurd (omega arith)
 is_listed_at (y ∷ ys) x zero h e = is_listed-cons y ys x ∙ ap (λ b. b || is_listed ys x) (eq-eqb y x e)
@@ -182,7 +182,7 @@ IsDistinct-from_test (x ∷ xs) h = let part = no_repeats_parts x xs h in (apart
 pub HasNoRepeats-from_test : (xs : List ℕ) → has_no_repeats xs ≡ true → HasNoRepeats xs
 HasNoRepeats-from_test xs h = AllPairs-from_IsDistinct {eq = eqb} (λ a b. Decides-eqb a b) xs (IsDistinct-from_test xs h)
 
--- a list of items below n without repeats has at most n items
+-- if all items of a list are below n, and q is one of them, then q is below n
 pub listed_below : (n q : ℕ) (ys : List ℕ) → list_all (λ x. ltb x n) ys ≡ true → list_any (eqb q) ys ≡ true → q < n
 listed_below n q [] b e = absurd (false≢true e)
   where

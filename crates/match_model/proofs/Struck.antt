@@ -65,7 +65,8 @@ all_here d p r = λ i. mutual_lists (remaining_nobody (given_lists d.programme_l
 pub all_here_too : (d : Draft) → AreAllHere d.programmes_withdrawn → AreAllHere d.residents_withdrawn → (instance_of d).resident_lists ≡ mutual_lists (given_lists d.resident_lists) (given_lists d.programme_lists)
 all_here_too d p r = λ i. mutual_lists (remaining_nobody (given_lists d.resident_lists) d.residents_withdrawn r i) (remaining_nobody (given_lists d.programme_lists) d.programmes_withdrawn p i)
 
--- the lists of a draft from which withdrawn members were struck
+-- the given lists of a draft from which withdrawn members were struck are the draft's given lists without these
+-- members
 given_struck : (flags : List Bool) (lists : List (List ℕ)) → given_lists (map (λ list. Some (strike flags list)) lists) ≡ map (strike flags) lists
 given_struck flags [] = refl
 given_struck flags (l ∷ ls) = ap (λ (xs : List (List ℕ)). strike flags l ∷ xs) (given_struck flags ls)
@@ -85,7 +86,7 @@ filter_parted p q s h (x ∷ xs) =
     step true = refl
     step false = refl
 
--- the mutual lists of lists from which withdrawn members were struck
+-- the mutual lists of the lists that remain are those of the lists from which withdrawn members were struck
 module _ (mine theirs : List (List ℕ)) (my_flags their_flags : List Bool) where
   abbrev my_left : List (List ℕ)
   my_left = remaining_lists mine my_flags
@@ -124,7 +125,8 @@ module _ (mine theirs : List (List ℕ)) (my_flags their_flags : List Bool) wher
       (length-mutual_lists my_left their_left ∙ sym (length-mutual_lists (map (strike their_flags) my_left) (map (strike my_flags) their_left) ∙ length-map my_left (strike their_flags)))
       (λ o h. mutual_list_at my_left their_left o ∙ mutual_struck_at o ∙ sym (mutual_list_at (map (strike their_flags) my_left) (map (strike my_flags) their_left) o))
 
--- the remaining lists of a draft from which withdrawn members were struck
+-- the lists that remain of a draft from which withdrawn members were struck are those that remain of the draft,
+-- without these members
 struck_left : (lists : List (Option (List ℕ))) (owners others : List Bool) → remaining_lists (given_lists (struck_lists lists owners others)) (none_withdrawn owners) ≡ map (strike others) (remaining_lists (given_lists lists) owners)
 struck_left lists owners others = remaining_none (given_lists (struck_lists lists owners others)) owners ∙ given_struck others (remaining_lists (given_lists lists) owners)
 

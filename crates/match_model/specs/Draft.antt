@@ -11,7 +11,7 @@ use Rattle.match_model.specs.declared.fault.ModelFault.{ModelFault}
 use Rattle.match_model.specs.declared.fault.ModelFault.TheVariants.{TooManyProgrammes, TooManyResidents, QuotaTooLarge, NoSuchMember, ListGivenTwice, ListedTwice, TooManyPairs, Memory, WithdrawnTwice}
 use Rattle.match_model.specs.Fault.{Answers}
 
--- what a builder was handed: its limits, each programme's quota, and for each member its list, if one was given, and whether it is
+-- a builder's input: its limits, each programme's quota, each member's list or none, and whether each member is
 -- withdrawn
 pub record Draft : Type 0 where
   pub limits : Limits
@@ -21,7 +21,7 @@ pub record Draft : Type 0 where
   pub programmes_withdrawn : List Bool
   pub residents_withdrawn : List Bool
 
--- each list that was given, or an empty list
+-- each member's list, or an empty list if none was given
 abbrev pub given_lists : List (Option (List ℕ)) → List (List ℕ)
 given_lists lists = map (λ list. unwrap_or list []) lists
 
@@ -31,14 +31,15 @@ remaining_lists [] flags = []
 remaining_lists (list ∷ lists) [] = list ∷ lists
 remaining_lists (list ∷ lists) (flag ∷ flags) = (if flag then [] else list) ∷ remaining_lists lists flags
 
--- the lists of programmes and of residents as given, with an empty list for each withdrawn owner
+-- the programmes' lists as given, where a withdrawn owner has an empty list; `resident_lists_left` has those of the
+-- residents
 abbrev pub programme_lists_left : Draft → List (List ℕ)
 programme_lists_left d = remaining_lists (given_lists d.programme_lists) d.programmes_withdrawn
 
 abbrev pub resident_lists_left : Draft → List (List ℕ)
 resident_lists_left d = remaining_lists (given_lists d.resident_lists) d.residents_withdrawn
 
--- each member's list in its own order, with only those members who list the owner too
+-- each owner's list in its own order, with only those members whose own lists have the owner
 unfoldable pub mutual_lists : List (List ℕ) → List (List ℕ) → List (List ℕ)
 mutual_lists mine theirs =
     map (λ (owned : ℕ × List ℕ). filter (λ x. is_listed (list_at theirs x) owned.0) owned.1) (enumerate_from 0 mine)
@@ -82,7 +83,7 @@ abbrev pub list_in : List ℕ → Option (ℕ × ℕ) → Option (List ℕ)
 list_in items None = None
 list_in items (Some span) = Some (slice_range items span.0 span.1)
 
--- if there is a span, the span does not end before its start, and does not end after n
+-- if there is a span, it does not end before its start, and not after n
 abbrev pub IsSpan : ℕ → Option (ℕ × ℕ) → Type 0
 IsSpan n None = Unit {0}
 IsSpan n (Some span) = (span.0 ≤ span.1) × (span.1 ≤ n)
@@ -112,13 +113,14 @@ abbrev pub has_no_repeats : List ℕ → Bool
 has_no_repeats [] = true
 has_no_repeats (x ∷ xs) = not (is_listed xs x) && has_no_repeats xs
 
--- the first fault of a call that adds a programme
+-- the first fault of a call that adds a programme with quota q: the limits allow no further programme, or no quota so
+-- large
 abbrev pub programme_fault : Draft → ℕ → Option ModelFault
 programme_fault d q =
     if nat_le (most_programmes d.limits) (length d.quotas) then Some TooManyProgrammes
     else (if nat_lt MAX_QUOTA q then Some QuotaTooLarge else None)
 
--- the first fault of a call that adds a resident
+-- the fault of a call that adds a resident: the limits allow no further resident
 abbrev pub resident_fault : Draft → Option ModelFault
 resident_fault d = if nat_le (most_residents d.limits) (length d.resident_lists) then Some TooManyResidents else None
 
@@ -128,14 +130,14 @@ owner_fault lists owner =
     if nat_le (length lists) owner then Some NoSuchMember
     else (if is_some (slice_index_or lists owner None) then Some ListGivenTwice else None)
 
--- the first fault of a list's items: an item is not below `others`, or is listed twice
+-- the first fault of a list's items: an item is not the number of one of the `others` members of the other side, or
+-- is listed twice
 abbrev pub items_fault : ℕ → List ℕ → Option ModelFault
 items_fault others items =
     if not (list_all (λ x. nat_lt x others) items) then Some NoSuchMember
     else (if not (has_no_repeats items) then Some ListedTwice else None)
 
--- the first fault of a list: the fault of its owner, or else the first fault of its items, which have to be below
--- `others`
+-- the first fault of a list: that of its owner, or else that of its items; the other side has `others` members
 abbrev pub list_fault : List (Option (List ℕ)) → ℕ → ℕ → List ℕ → Option ModelFault
 list_fault lists owner others items = option_or (owner_fault lists owner) (items_fault others items)
 

@@ -89,7 +89,7 @@ pub record IsInstance (inst : Instance) : Type 0 where
   pub withdrawn_residents_rank_nobody : (r : ℕ) → is_withdrawn inst.residents_withdrawn r ≡ true → list_of_resident inst r ≡ []
 
 -- the lists and quotas form an instance, `pairs` is its number of acceptable pairs, and no list is longer than the
--- greatest number of members
+-- greatest number of pairs
 pub record IsWellFormed (inst : Instance) (pairs : ℕ) : Type 0 where
   pub is_instance : IsInstance inst
   pub pairs_counted : pairs ≡ pair_count inst

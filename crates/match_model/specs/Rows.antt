@@ -12,7 +12,7 @@ abbrev pub parted : {T : Type 0} → ℕ → List ℕ → List T → List (List 
 parted start [] items = []
 parted start (end ∷ ends) items = slice_range items start end ∷ parted end ends items
 
--- the end of the last row
+-- the end of the last row; `start` if there is no row
 abbrev pub last_end : ℕ → List ℕ → ℕ
 last_end start [] = start
 last_end start (end ∷ ends) = last_end end ends

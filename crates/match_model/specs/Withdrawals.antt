@@ -20,7 +20,7 @@ strike flags list = filter (λ x. not (is_withdrawn flags x)) list
 abbrev pub struck_lists : List (Option (List ℕ)) → List Bool → List Bool → List (Option (List ℕ))
 struck_lists lists owners others = map (λ list. Some (strike others list)) (remaining_lists (given_lists lists) owners)
 
--- nobody is withdrawn
+-- flags for as many members, none of whom is withdrawn
 abbrev pub none_withdrawn : List Bool → List Bool
 none_withdrawn flags = map (λ flag. false) flags
 

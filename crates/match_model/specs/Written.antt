@@ -12,7 +12,7 @@ pub record Written : Type 0 where
 abbrev pub written_of : Draft → Written
 written_of d = record { programme_lists = given_lists d.programme_lists; resident_lists = given_lists d.resident_lists }
 
--- the instance is made of these lists
+-- the instance is made of some draft, and these are the draft's lists as written
 pub record AreWritten (inst : Instance) (written : Written) : Type 0 where
   pub draft : Draft
   pub made : inst ≡ instance_of draft

@@ -7,7 +7,7 @@ use crate::member::{ProgrammeNo, ResidentNo};
 use std::alloc::Global;
 use std::marker::Model;
 
-/// For each resident a programme or none.
+/// For each resident the programme with which the resident is matched, or none.
 #[derive(Debug, Drop)]
 pub struct Assignment {
     places: Vec<Option<ProgrammeNo>>,

@@ -18,8 +18,8 @@ use crate::ranking::remaining;
 use crate::rows::Rows;
 use std::alloc::{AllocError, Global};
 
-/// Appends to the open row of `kept` those items of a list that also stand in the row `row`. These items are appended
-/// in the list's order. `places` says where each number stands in `row`.
+/// Appends to the open row of `kept` those items of a list that also stand in the row `row`, in the list's order.
+/// `places` says where each number stands in `row`.
 fn keep(
     kept: &mut Rows<u32>,
     items: &[u32],
@@ -39,7 +39,7 @@ fn keep(
     Ok(())
 }
 
-/// Whether this count of items is above the limit `most`. Without a limit the answer is no.
+/// Whether this many items are more than the limit `most`. They never are if there is no limit.
 fn is_over(most: Option<usize>, count: usize) -> bool
     ensures { result ≡ are_over most count }
 {
@@ -59,8 +59,8 @@ fn room_for(most: Option<usize>, count: usize) -> usize
     }
 }
 
-/// For each list the items that stand in the row of the list's owner. Fails as soon as the items together are more than
-/// the limit.
+/// For each list, those of its items that stand in the row of the list's owner. Fails as soon as these items together
+/// are more than the limit.
 fn all_kept(
     alloc: Global,
     most: Option<usize>,
@@ -98,8 +98,8 @@ fn all_kept(
     Ok(kept)
 }
 
-/// For each list the items that stand in the row of the list's owner, with the table of their ranks. All numbers in the
-/// rows are below `others`.
+/// For each list, those of its items that stand in the row of the list's owner, with the table of their ranks. All
+/// numbers in the rows are below `others`.
 fn kept_with_ranks(
     alloc: Global,
     most: Option<usize>,
@@ -129,8 +129,8 @@ fn kept_with_ranks(
     Ok((kept, ranks))
 }
 
-/// For each member's list, in order, those listed members who list this member too, and the table of their ranks. Fails
-/// if these items together are more than `most`.
+/// For each member, those on the member's list who list this member too, in order, with the table of their ranks.
+/// Fails if these items together are more than `most`.
 pub(crate) fn mutual(
     alloc: Global,
     most: usize,
@@ -159,8 +159,8 @@ pub(crate) fn mutual(
     kept_with_ranks(alloc, Some(most), mine, mine_withdrawn, theirs.len(), &rows)
 }
 
-/// The same as `mutual`, but from the mutual lists of the other side instead of the lists as given. The mutual lists
-/// are shorter, and have exactly the members who are listed back.
+/// What `mutual` gives, but made from the mutual lists of the other side instead of the lists as given. The mutual
+/// lists are shorter, and have exactly the members who are listed back.
 pub(crate) fn mutual_in_turn(
     alloc: Global,
     mine: &GivenLists,

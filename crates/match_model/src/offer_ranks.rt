@@ -19,8 +19,8 @@ fn rank_by_guess(table: &[(u32, u32)], number: u32, guess: usize) -> Option<u32>
     }
 }
 
-/// Appends one row: the rank of a programme on the list of each resident whom the programme lists. The tables have the
-/// ranks of the residents' lists. The guess for a table is the number of its entries that were looked up before.
+/// Appends one row: the programme's rank on the list of each resident whom it lists. The tables have the ranks of the
+/// residents' lists. The guess for a table is how many of its entries were looked up before.
 fn push_ranks(
     ranks: &mut Rows<u32>,
     passed: &mut [usize],

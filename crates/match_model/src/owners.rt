@@ -11,7 +11,7 @@ use crate::ranking::remaining;
 use crate::rows::Rows;
 use std::alloc::{AllocError, Global};
 
-/// For each number below `count`, the number of lists on which it stands.
+/// For each number below `count`, how many of the lists have it.
 fn row_lengths(
     alloc: Global,
     count: usize,
@@ -46,8 +46,8 @@ fn count_items(counts: &mut [usize], items: &[u32])
     }
 }
 
-/// Enters an owner into the row of each item of the owner's list, behind the owners already counted for this item, and
-/// counts the owner.
+/// Enters an owner into the row of each item of the owner's list, behind the owners who were entered there before,
+/// and counts the owner there.
 fn enter(rows: &mut Rows<u32>, counts: &mut [usize], owner: u32, items: &[u32])
     requires below { list_all (λ x. nat_lt x (length counts.old)) items.now ≡ true }
     requires distinct { has_no_repeats items.now ≡ true }
@@ -96,7 +96,7 @@ pub(crate) fn owners(
     Ok(rows)
 }
 
-/// For each number below `count`, the number of rows in which it stands.
+/// For each number below `count`, how many of the rows have it.
 fn lengths_by_rows(alloc: Global, count: usize, lists: &Rows<u32>) -> Result<Vec<usize>, AllocError>
     requires few { length lists.now.rows < 2 ^ 32 }
     requires below { All (λ list. list_all (λ x. nat_lt x count) list ≡ true) lists.now.rows }
@@ -111,7 +111,7 @@ fn lengths_by_rows(alloc: Global, count: usize, lists: &Rows<u32>) -> Result<Vec
     Ok(counts)
 }
 
-/// The same as `owners`, for lists that are stored as rows.
+/// What `owners` gives, for lists that are stored as rows.
 pub(crate) fn owners_of_rows(
     alloc: Global,
     count: usize,

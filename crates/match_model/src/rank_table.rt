@@ -23,7 +23,7 @@ pub(crate) fn rank_in(table: &[(u32, u32)], number: u32) -> Option<u32>
 }
 
 /// Appends to the open table those numbers of a row that stand in a list, in the row's order, each with its place in
-/// the list. `places` says where each number stands in the list.
+/// the list. `places` has these places.
 fn enter_ranks(
     tables: &mut Rows<(u32, u32)>,
     list: &[u32],

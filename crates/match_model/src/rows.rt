@@ -160,7 +160,7 @@ impl Rows<u32> {
         Ok(())
     }
 
-    /// The same rows, with their numbers as numbers of residents.
+    /// These rows, with their numbers as numbers of residents.
     pub(crate) fn into_residents(self, alloc: Global) -> Result<Rows<ResidentNo>, AllocError>
         ensures { IfOk result (λ made. made ≡ self) }
     {
@@ -169,7 +169,7 @@ impl Rows<u32> {
         Ok(Rows { items, ends })
     }
 
-    /// The same rows, with their numbers as numbers of programmes.
+    /// These rows, with their numbers as numbers of programmes.
     pub(crate) fn into_programmes(self, alloc: Global) -> Result<Rows<ProgrammeNo>, AllocError>
         ensures { IfOk result (λ made. made ≡ self) }
     {

@@ -5,8 +5,9 @@ ghost use Rattle.match_model.specs.Draft.{Draft, instance_of};
 ghost use Rattle.match_model.specs.Withdrawals.{ListOneAnother, AreMutualWhereAllHere, struck, with_flags};
 
 /// How withdrawals change the instance of a draft. A pair is acceptable exactly if each member listed the other and
-/// neither is withdrawn. The lists are those of a draft in which withdrawn members have empty lists and stand on no
-/// list. If nobody is withdrawn, the lists are the mutual parts of the given lists.
+/// neither is withdrawn. Apart from the flags, the instance is that of a draft without withdrawals in which
+/// withdrawn members have empty lists and stand on no list. If nobody is withdrawn, the lists are the mutual parts
+/// of the given lists.
 pub fn law_withdrawals()
     ensures acceptable { (d : Draft) (r p : ℕ)
         → Acceptable (instance_of d) r p ↔ ListOneAnother d r p }

@@ -14,7 +14,7 @@ each_push {X = X} xs n x property each has = record { one_each = omega (arith, l
     one i y (inl at) = each.has i y at
     one i y (inr last) = subst (λ (z : X). property i z) last.1 (subst (λ (m : ℕ). property m x) (sym (last.0 ∙ each.one_each)) has)
 
--- a list without items has the property for all numbers below 0
+-- if a list has no items, each of its items has the property of its number
 pub each_none : {X : Type 0} (xs : List X) (property : ℕ → X → Type 0) → xs ≡ [] → Each xs 0 property
 each_none {X = X} xs property none = record { one_each = ap length none; has = λ i x at. absurd (cc (subst (λ (ys : List X). slice_get ys i ≡ Some x) none at)) }
 

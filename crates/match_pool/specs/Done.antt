@@ -67,8 +67,8 @@ IsReceipt (Take r p) = Unit {0}
 IsReceipt (Hear p r k) = Unit {0}
 IsReceipt e = ⊥
 
--- The fault is not one of the number of workers or of the capacity. A fault `OutOfStep` has a receipt that may not
--- follow a legal journal. About other faults nothing is said.
+-- The fault is not a wrong number of workers or a wrong capacity. `OutOfStep` has a legal journal and a receipt that
+-- may not follow it. Of other faults nothing is said.
 abbrev pub IsFault : Instance → Capacity → RunFault → Type 0
 IsFault inst cap BadWorkers = ⊥
 IsFault inst cap BadCapacity = ⊥
@@ -78,8 +78,8 @@ IsFault inst cap (OutOfStep journal event) = IsLegal inst cap journal.items × I
 IsFault inst cap (Torn desk) = Unit {0}
 IsFault inst cap (MailGone desk) = Unit {0}
 
--- A wrong number of workers, which has to be 1 to 8, is reported first; then a wrong capacity. Any other fault is a
--- fault of the run.
+-- A wrong number of workers, which has to be 1 to 8, comes before a wrong capacity, and both come before any fault of
+-- the run.
 abbrev pub IsRunFault : Instance → Capacity → ℕ → RunFault → Type 0
 IsRunFault inst cap workers BadWorkers = (workers ≡ 0) ⊎ (8 < workers)
 IsRunFault inst cap workers BadCapacity = (1 ≤ workers) × (workers ≤ 8) × (is_capacity cap ≡ false)

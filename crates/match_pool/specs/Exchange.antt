@@ -18,19 +18,19 @@ use Rattle.match_pool.specs.declared.exchange.Entry.TheVariants as entry
 use Rattle.match_pool.specs.declared.exchange.Found.{Found}
 use Rattle.match_pool.specs.declared.exchange.Found.TheVariants as found
 
--- the ledger, the receipt that its core refused, if it refused one, and which desks wait for room
+-- the ledger, the receipt that its core refused, if it refused one, and the queues of desks that wait for room
 pub record Exchanged (P Q : Type 0) : Type 0 where
   pub ledger : Entries P Q
   pub out_of_step : Option Event
   pub waits : Waits
 
--- if the event was entered, this holds of the reply: whether the desk's mailbox has more messages, and which desk was
--- woken
+-- if the reply says that the event was entered, `told` is true of it: whether the desk's mailbox has more messages,
+-- and which desk was woken
 abbrev pub IfMade : Entry → (Bool → Option ℕ → Type 0) → Type 0
 IfMade (entry.Made more woken) told = told more woken
 IfMade other told = Unit {0}
 
--- if the core named a desk to a worker that asked for something to do, this holds of the desk
+-- if a desk was found for a worker that asked for something to do, this property holds of the desk
 abbrev pub IfDesk : {C : Type 0} → Found C → (ℕ → Type 0) → Type 0
 IfDesk (found.Desk desk) property = property desk
 IfDesk other property = Unit {0}
@@ -49,7 +49,8 @@ refused_receipt Spoiled = entry.Ended
 refused_receipt (Step cause) = entry.Refused
 refused_receipt (PutRefused cause) = entry.Refused
 
--- the number of a programme's desk; residents' desks have the numbers before
+-- the number of a programme's desk, up to the greatest number of 32 bits; it comes after those of all residents'
+-- desks
 abbrev pub number_of_programme : Instance → ℕ → ℕ
 number_of_programme inst p = min (length inst.resident_lists + p) 4294967295
 
@@ -74,6 +75,6 @@ module _ {P Q : Type 0} where
     pub is_receipt : IsReceipt receipt
     pub may_not_follow : MayFollow inst cap ledger.journal receipt → ⊥
 
-  -- if a receipt was refused, the receipt is out of step
+  -- if there is a receipt that was refused, it is out of step
   abbrev pub IsRefusedForGood : Instance → Capacity → Entries P Q → Option Event → Type 0
   IsRefusedForGood inst cap ledger out_of_step = ForSome out_of_step (λ receipt. IsOutOfStep inst cap ledger receipt)

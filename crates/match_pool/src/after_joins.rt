@@ -6,7 +6,7 @@ ghost use Rattle.exchange_core.specs.Mail.{takes, hears};
 ghost use Rattle.match_pool.specs.Compare.{AreLogs, AreByResident, AreByProgramme, taken_of, heard_of};
 ghost use Rattle.match_pool.specs.Done.{IsRunOf, AreCounted, IsFault};
 ghost use Rattle.match_pool.specs.Exchange.{IsOutOfStep};
-ghost use Rattle.match_pool.specs.RunState.{fault_of};
+ghost use Rattle.match_pool.specs.RunState.{desk_of, fault_of};
 ghost use Rattle.match_pool.specs.declared.fault.RunFault.{RunFault};
 ghost use Rattle.match_pool.specs.declared.fault.RunFault.TheVariants.{Memory};
 
@@ -73,7 +73,7 @@ impl<M: Mailboxes> Reserve<M> {
         }
     }
 
-    /// The result of a run whose workers have ended with these tallies.
+    /// The result of a run whose workers have ended and gave these tallies back.
     pub(crate) fn finish<J: ExchangeIdentity + WorkersIdentity, G: Gate>(
         self,
         inst: &Instance,
@@ -106,8 +106,8 @@ impl<M: Mailboxes> Reserve<M> {
     }
 }
 
-// Joins the workers' shares of the ledger's count. The events of each worker are counted from the ledger's own record
-// of workers.
+// Joins the tallies of all workers, so that together they count all entries of the ledger. How many events each
+// worker entered is counted from the ledger's own list of workers.
 fn join_all<J: ExchangeIdentity>(tallies: Vec<Tally<J>>) {
     let mut tallies = tallies.into_iter();
     if let Some(mut whole) = tallies.next() {
@@ -117,7 +117,7 @@ fn join_all<J: ExchangeIdentity>(tallies: Vec<Tally<J>>) {
     }
 }
 
-// How the run ended, with its ledger; or the fault that ended the run early.
+// How the run ended, with its ledger; or the fault that ended it early.
 fn outcome_of<J: ExchangeIdentity + WorkersIdentity, M: Mailboxes, G: Gate>(
     inst: &Instance,
     exchange: Exchange<J, M>,
@@ -163,8 +163,9 @@ fn out_of_step_fault<J: ExchangeIdentity, M: Mailboxes>(
     }
 }
 
-// How a run without a fault ended: closed, or stopped by the gate. If neither is so, the fault names a desk that is
-// still pending. If no desk is pending either, no worker ever began, so none closed the exchange.
+// How a run without a fault ended: closed, or stopped by the gate. If it was neither closed nor stopped, the fault
+// names a desk at which something is pending. If nothing is pending, no worker ever began, so nobody closed the
+// exchange.
 fn ending_of<J: ExchangeIdentity, M: Mailboxes>(
     inst: &Instance,
     ledger: &Ledger<J, M::OfferPut, M::AnswerPut>,
@@ -188,8 +189,10 @@ fn ending_of<J: ExchangeIdentity, M: Mailboxes>(
     Err(RunFault::Torn(pending_desk(pending)))
 }
 
-// The desk at which this is pending.
-fn pending_desk(pending: Pending) -> Desk {
+// The desk at which something is pending.
+fn pending_desk(pending: Pending) -> Desk
+    ensures { result ≡ desk_of pending }
+{
     match pending {
         Pending::Offers(resident) => Desk::Resident(resident),
         Pending::Due(resident) => Desk::Resident(resident),

@@ -13,8 +13,8 @@ pub enum Ending {
     Stopped,
 }
 
-/// The mailboxes' ends and the agents of a run. Sending ends are ordered by the receiver's number, and agents by their
-/// own desk's number.
+/// The ends of the mailboxes, and the agents of a run. Sending ends are in the order of the receivers' numbers, and
+/// agents in that of their own numbers.
 #[derive(Drop)]
 pub struct Ends<M: Mailboxes> {
     /// For each resident, the sending end of the mailbox for the offers to the resident.
@@ -32,7 +32,7 @@ pub struct Ends<M: Mailboxes> {
 pub struct Done<M: Mailboxes> {
     /// How the run ended.
     pub ending: Ending,
-    /// Every event, in the order in which the workers took the ledger's lock to enter the events.
+    /// All events, in the order in which workers entered them under the ledger's lock.
     pub journal: Vec<Event>,
     /// For each event, the number of the worker that entered it.
     pub who: Vec<u8>,

@@ -86,7 +86,7 @@ impl<J: WorkersIdentity> Starter<J> {
     }
 }
 
-// Starts a worker for each tally. The result is none if the system refuses to start a worker; then the run is ended.
+// Starts a worker for each tally. If the system refuses to start one, the result is none, and the run is ended.
 fn start_all<'s, 'f, E, J, M, G, R>(
     scope: &Scope<'s, E>,
     rt: &'s R,
@@ -122,7 +122,7 @@ where
     Some(handles)
 }
 
-// Starts the worker with this number and tally. The result is none if the system refuses; then the run is ended.
+// Starts the worker with this number and tally. If the system refuses, the result is none, and the run is ended.
 fn start_one<'s, 'f, E, J, M, G, R>(
     scope: &Scope<'s, E>,
     rt: &'s R,

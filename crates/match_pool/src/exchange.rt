@@ -37,9 +37,9 @@ impl<J: ExchangeIdentity, M: Mailboxes> Model for Exchange<J, M> {
 /// What happened when a worker tried to enter an event.
 #[derive(Clone, Copy, Debug)]
 pub(crate) enum Entry {
-    /// The event was entered. `more` says whether the mailbox of the event's own desk has further messages. After a
-    /// take no worker reads `more`, since an answer is due before the next take. `woken` is a desk that now has work:
-    /// after a put the receiver whose mailbox was empty, after a receipt the sender who waited for the room.
+    /// The event was entered. `more` says whether more messages wait in the mailbox of the event's own desk; after a
+    /// take no worker reads it, since an answer is due before the next take. `woken` is a desk that now has work:
+    /// after a put, the receiver whose mailbox was empty; after a receipt, the sender who waited for room.
     Made { more: bool, woken: Option<u32> },
     /// The mailbox was full, and the desk waits for room.
     Later,
@@ -91,7 +91,7 @@ impl<J: ExchangeIdentity, M: Mailboxes> Exchange<J, M> {
         (ledger, out_of_step)
     }
 
-    /// Whether messages wait at a desk: by the journal they were put and not received.
+    /// Whether messages wait at a desk: by the journal they were put and not yet taken.
     #[inline(always)]
     pub(crate) fn has_mail(&self, inst: &Instance, desk: Desk) -> bool
         requires { inst.now ≡ J.inst }
@@ -106,8 +106,8 @@ impl<J: ExchangeIdentity, M: Mailboxes> Exchange<J, M> {
         }
     }
 
-    /// A worker has taken the desk of a programme that waited for room, so the desk no longer waits. The first answer
-    /// says whether messages wait at the desk. The second says whether the desk was called because of room.
+    /// Notes that a worker has taken a programme's desk, which so no longer waits for room. The first answer says
+    /// whether messages wait at the desk. The second says whether the desk was called because there is room.
     pub(crate) fn programme_comes(
         &mut self,
         inst: &Instance,
@@ -279,7 +279,7 @@ impl<J: ExchangeIdentity, M: Mailboxes> Exchange<J, M> {
         }
     }
 
-    /// Some event that may follow the journal. If this event is the close, the call enters the close.
+    /// Some event that may follow the journal, as the desk that makes it. If this event is the close, it is entered.
     pub(crate) fn close_or_find(
         &mut self,
         inst: &Instance,
@@ -301,7 +301,7 @@ impl<J: ExchangeIdentity, M: Mailboxes> Exchange<J, M> {
     }
 }
 
-/// What a worker gets that asks the core for an event.
+/// What a worker gets that asks the core for something to do.
 #[derive(Drop)]
 pub(crate) enum Found<C> {
     /// The exchange was at rest, and this worker has entered the close. The worker still has to end the run.

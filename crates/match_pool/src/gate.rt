@@ -8,7 +8,7 @@ use exchange_core::Desk;
 pub enum Go {
     /// The run goes on.
     On,
-    /// The run ends once the events that workers have begun are entered.
+    /// The run ends after each worker has entered the event that it has begun.
     Stop,
 }
 
@@ -24,12 +24,12 @@ pub trait Gate {
     /// event gave work before it makes the call, so that other workers find these desks.
     const ENTERED_MAY_HOLD: bool = true;
 
-    /// The gate's call after a message was taken out of a mailbox and before this receipt is entered. The worker holds
-    /// only this desk's lock.
+    /// The gate's call after a worker took a message out of a mailbox and before it enters this receipt. The worker
+    /// holds no lock but this desk's.
     fn pass(&self, worker: usize, desk: Desk) -> Go
         ensures { result ≡ Go.Stop → MAY_STOP ≡ true };
 
-    /// The gate's call after each event that was entered. The ledger's lock is released by then.
+    /// The gate's call after each event that was entered. The worker has released the ledger's lock by then.
     fn entered(&self, worker: usize);
 }
 

@@ -13,8 +13,8 @@ use std::marker::PhantomData;
 use std::sync::ledger::Share;
 use std::sync::{Condvar, Mutex, MutexGuard, Wait};
 
-/// A thread's rank for desks: one of the two parts that the thread has of the run's ledger of ranks. The rank has no
-/// bytes. While the thread holds a desk's lock, the guard of this lock has the rank.
+/// A thread's rank for desks: one of the two parts that the thread has of the run's ledger of ranks. The rank takes
+/// no bytes. While the thread holds a desk's lock, the lock's guard has the rank.
 #[derive(Drop)]
 pub(crate) struct DeskRank<J: WorkersIdentity> {
     own: Share<RankLedger<J>>,
@@ -22,8 +22,8 @@ pub(crate) struct DeskRank<J: WorkersIdentity> {
     ghost none: { own.amount ≡ 0 },
 }
 
-/// A thread's rank for the ledger's lock and the schedule's lock: the thread's other part of the ledger of ranks. While
-/// the thread holds one of these two locks, the guard of this lock has the part, and the rank has none.
+/// A thread's rank for the ledger's lock and the schedule's: the thread's other part of the ledger of ranks. While
+/// the thread holds one of these locks, the lock's guard has this part, and the rank has none.
 #[derive(Drop)]
 pub(crate) struct InnerRank<J: WorkersIdentity> {
     own: Share<RankLedger<J>>,
@@ -55,7 +55,7 @@ impl<J: WorkersIdentity> InnerRank<J> {
         }
     }
 
-    /// Releases the ledger's lock or the schedule's lock. Only the guard of this lock has the part that the rank lacks.
+    /// Releases the ledger's lock or the schedule's. The rank gets back the part that the lock's guard has.
     #[inline(always)]
     pub(crate) fn give_back<T>(&mut self, guard: InnerGuard<'_, J, T>)
         requires { self.old.own.parts ≡ 0 }
@@ -84,7 +84,7 @@ pub(crate) struct InnerGuard<'a, J: WorkersIdentity, T> {
     held: HeldPart<J>,
 }
 
-/// The part of the ledger of ranks that a thread's `InnerRank` lacks while the thread holds one of these two locks.
+/// The part that a thread's `InnerRank` lacks while the thread holds the ledger's lock or the schedule's.
 #[derive(Drop)]
 struct HeldPart<J: WorkersIdentity> {
     own: Share<RankLedger<J>>,
@@ -151,8 +151,8 @@ impl<'a, J: WorkersIdentity, T> InnerGuard<'a, J, T> {
 }
 
 impl<'s, 'a, J: ExchangeIdentity + WorkersIdentity, G: Gate> InnerGuard<'s, J, RunState<'a, J, G>> {
-    /// Waits for news without the schedule's lock, until a desk is listed or the run ends. Only a worker that is counted
-    /// as resting has a `Resting`.
+    /// Releases the schedule's lock and waits for news until a desk is listed or the run ends. Only a worker that is
+    /// counted as resting has a `Resting`.
     pub(crate) fn rest<R: Wait>(
         self,
         rt: &R,
@@ -169,12 +169,12 @@ impl<'s, 'a, J: ExchangeIdentity + WorkersIdentity, G: Gate> InnerGuard<'s, J, R
     }
 }
 
-/// Where workers that rest wait for news.
+/// Where resting workers wait for news.
 #[derive(Drop)]
 pub(crate) struct News(Condvar);
 
-/// A run's end of which workers that rest have not heard. This value can't be dropped: only `News::wake_all` takes it.
-/// So each function that ends the run wakes these workers before it returns.
+/// The end of a run, of which the resting workers have not heard yet. This value can't be dropped: only
+/// `News::wake_all` takes it. So each function that ends the run wakes these workers before it returns.
 pub(crate) struct Unheard(());
 
 impl Unheard {
@@ -185,7 +185,7 @@ impl Unheard {
 }
 
 impl News {
-    /// The place, while no worker waits.
+    /// A place for news where no worker waits yet.
     pub(crate) fn new() -> News {
         News(Condvar::new())
     }
@@ -286,8 +286,8 @@ fn try_soon<T>(lock: &Mutex<T>) -> Option<MutexGuard<'_, T>> {
     None
 }
 
-// The value under a lock that each worker needs for each event. If another worker holds the lock, this worker naps, so
-// that the other worker goes on alone. A lock that changes hands with each event makes two workers slower than one.
+// Locks a lock that each worker needs for each event. If another worker holds the lock, this worker naps, so that the
+// other one goes on alone. If a lock changes hands with each event, two workers are slower than one.
 #[inline(always)]
 fn lock_soon<'a, T, R: Wait>(rt: &R, lock: &'a Mutex<T>, room: &NapRoom) -> MutexGuard<'a, T> {
     match try_soon(lock) {
@@ -296,8 +296,8 @@ fn lock_soon<'a, T, R: Wait>(rt: &R, lock: &'a Mutex<T>, room: &NapRoom) -> Mute
     }
 }
 
-// The value under a lock that another worker holds. The worker tries the lock after each of some naps. After the last
-// nap the worker waits for the lock.
+// Locks a lock that another worker holds. This worker tries the lock after each of several naps, and after the last
+// nap waits for it.
 #[cold]
 fn lock_later<'a, T, R: Wait>(rt: &R, lock: &'a Mutex<T>, room: &NapRoom) -> MutexGuard<'a, T> {
     let mut naps = Naps::FOR_LOCK;

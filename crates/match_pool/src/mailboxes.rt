@@ -28,8 +28,8 @@ pub trait Mailboxes {
     // How many answers fit into a mailbox for answers.
     ghost answer_room: { Self.AnswerPut → ℕ };
 
-    /// How many misses in a row a worker accepts at one desk. A miss is a mailbox that has no message, or no room,
-    /// although by the journal it has. After more misses the run ends with the fault `Torn`.
+    /// How many misses in a row a worker accepts at one desk. A miss is a mailbox without a message, or without room,
+    /// although the journal says otherwise. After more misses the run ends with the fault `Torn`.
     const PATIENCE: u32;
 
     /// Opens this resident's mailbox, with room for `room` offers, which is at least one. The only fault is `Memory`.
@@ -59,7 +59,8 @@ pub trait Mailboxes {
         ensures memory { IfErr result (λ fault. fault ≡ MailFault.Memory) };
 }
 
-/// Mailboxes under this rule: the messages taken out of a mailbox are a beginning of the messages put into it.
+/// Mailboxes with this rule: the messages that were taken out of a mailbox are the first of those that were put into
+/// it.
 #[derive(Clone, Copy, Debug)]
 pub struct RuledMailboxes<R: Wait + Copy>(pub R);
 

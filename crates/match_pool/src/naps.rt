@@ -34,8 +34,8 @@ impl NapRoom {
     }
 }
 
-/// The lengths of a worker's naps, in microseconds. Each nap is twice as long as the nap before, up to a longest nap.
-/// So workers that find nothing to do cost the working ones little.
+/// The lengths of a worker's naps, in microseconds. Each nap is twice as long as the one before, up to a longest nap.
+/// So workers that find nothing to do take little time from those that work.
 #[derive(Clone, Copy, Debug)]
 pub(crate) struct Naps {
     micros: u64,
@@ -43,14 +43,14 @@ pub(crate) struct Naps {
 }
 
 impl Naps {
-    /// The naps of a worker that found a lock taken, before the first nap. These naps are long: each time that a lock
-    /// changes hands, the data under it moves from one processor to another.
+    /// The naps of a worker that found a lock taken, from the first nap on. These naps are long because each time a
+    /// lock changes hands, the data under it moves from one processor to another.
     pub(crate) const FOR_LOCK: Naps = Naps {
         micros: 25_000,
         longest: 100_000,
     };
 
-    /// The naps of a worker that found no desk with work, before the first nap.
+    /// The naps of a worker that found no desk with work, from the first nap on.
     pub(crate) const FOR_WORK: Naps = Naps {
         micros: 200,
         longest: 3_200,

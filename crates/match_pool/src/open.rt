@@ -23,8 +23,8 @@ use std::alloc::Global;
 use std::marker::PhantomData;
 use std::sync::ledger::Blank;
 
-/// The desks of one side: the sending ends of the desks' mailboxes, and the locks with the desks' agents, both by the
-/// desk's number.
+/// The desks of one side, in the order of their numbers: the sending ends of their mailboxes, and the locks with
+/// their agents.
 type Side<P, J, D> = (Vec<P>, Vec<DeskLock<J, D>>);
 
 /// What a run needs to open its exchange. The type names the instance and the capacity.
@@ -167,7 +167,8 @@ impl<'a, J: ExchangeIdentity + WorkersIdentity, M: Mailboxes> RunStart<'a, J, M>
     }
 }
 
-// The room of a mailbox that gets at most `most` messages in the whole exchange: never more room than can be used.
+// The room of a mailbox that gets at most `most` messages in the whole exchange. The room is never more than can be
+// used.
 fn room(cap: Capacity, most: usize) -> u32
     requires within { most ≤ 2 * MAX_PAIRS }
     requires admitted { is_capacity cap ≡ true }

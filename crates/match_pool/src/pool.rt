@@ -77,7 +77,7 @@ pub fn run_over<M: Mailboxes + Send + Sync, G: Gate + Sync, R: Threads + Wait + 
     run_named::<Brand, M, G, R>(&rt, alloc, blanks, mailboxes, inst, cap, workers, gate)
 }
 
-/// Empty records for the counts of a run: one for the entries of the ledger, and one for the workers.
+/// Empty records for the two counts of a run: of the ledger's entries, and of the workers.
 #[derive(Drop)]
 struct Blanks {
     entries: Blank,

@@ -49,7 +49,7 @@ impl<'a, J: ExchangeIdentity + WorkersIdentity, G: Gate> RunState<'a, J, G> {
         self.end()
     }
 
-    /// Notes a fault that ends the run. If there are several faults, the first fault stays.
+    /// Notes a fault that ends the run. If there was a fault before, that one stays.
     pub(crate) fn fail(&mut self, trouble: Trouble) -> Unheard
         ensures { MatchOption self.old.trouble (self.new.trouble ≡ Some trouble)
             (λ first. self.new.trouble ≡ Some first) }
@@ -59,7 +59,8 @@ impl<'a, J: ExchangeIdentity + WorkersIdentity, G: Gate> RunState<'a, J, G> {
         self.end()
     }
 
-    // Ends the schedule: no worker gets a desk any more. The worker that closed, stopped or failed the run calls this.
+    // Ends the schedule, so that no worker gets a desk any more. The worker that closed, stopped or failed the run
+    // calls this.
     fn end(&mut self) -> Unheard
         requires { is_told self.old.closed self.old.stopped self.old.trouble ≡ true }
         ensures { self.new.trouble ≡ self.old.trouble }

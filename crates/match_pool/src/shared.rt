@@ -111,8 +111,8 @@ impl<'a, J: ExchangeIdentity + WorkersIdentity, M: Mailboxes, G: Gate> SharedSta
         self.state.lock(rt, inner, &self.for_lock)
     }
 
-    /// Naps once, because the worker found no desk with work. A worker that naps for a lock is woken as well, since it
-    /// may have the work in hand.
+    /// Naps once, because the worker found no desk with work. Also wakes the workers that nap for a lock, since one
+    /// of them may hold a desk with work.
     pub(crate) fn nap<R: Wait>(&self, rt: &R, naps: &mut Naps) {
         self.for_lock.rouse();
         naps.nap(rt, &self.for_work);
@@ -161,13 +161,14 @@ impl<'a, J: ExchangeIdentity + WorkersIdentity, M: Mailboxes, G: Gate> SharedSta
         self.news.wake_all(end);
     }
 
-    // Notes that no worker may begin a further event, and wakes all workers that nap.
+    // Notes that no worker may begin another event, and wakes all workers that nap.
     fn end_naps(&self) {
         self.for_lock.end();
         self.for_work.end();
     }
 
-    /// One more worker of the crew begins, before its thread starts. The result is none if too many have begun.
+    /// Counts one more worker of the crew as begun, before its thread starts. The result is none if too many have
+    /// begun.
     pub(crate) fn begin_one<R: Wait>(
         &self,
         rt: &R,
@@ -193,7 +194,7 @@ impl<'a, J: ExchangeIdentity + WorkersIdentity, M: Mailboxes, G: Gate> SharedSta
         state.rest(rt, &self.news, resting)
     }
 
-    /// Wakes one worker that rests until a desk is listed.
+    /// Wakes one of the workers that rest until a desk is listed.
     pub(crate) fn wake_one(&self) {
         self.news.wake_one();
     }

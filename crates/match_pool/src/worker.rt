@@ -52,7 +52,8 @@ enum Step {
     Leave { again: bool },
 }
 
-/// After this number of misses in a row, a worker naps after each further miss.
+/// A miss is a mailbox without a message, or without room, although the journal says otherwise. After this many
+/// misses in a row, a worker naps after each further miss.
 const MISSES: u32 = 16;
 
 /// How often a worker that found no desk naps and looks again, before it rests until a desk is listed.
@@ -60,7 +61,8 @@ const LOOKS: u32 = 8;
 
 const LEAVE: Step = Step::Leave { again: false };
 
-// For what an answer wakes its programme. An answer that gives back a place wakes the programme for a further offer.
+// What an answer wakes its programme for: a decline or a release gives back a place, so the programme may make
+// another offer.
 #[inline(always)]
 fn wake_of(kind: AnswerKind) -> Wake {
     match kind {
@@ -103,8 +105,8 @@ impl<'a, 'f, J: ExchangeIdentity + WorkersIdentity, M: Mailboxes, G: Gate, R: Wa
         }
     }
 
-    /// Works at desks until the run ends, and returns the worker's tally. The worker begins with the token of a worker
-    /// that looks for a desk, and gives this token back: so it has let go of each desk that it took.
+    /// Works at desks until the run ends, and returns the worker's tally. The worker begins with the token of a
+    /// worker that looks for a desk and gives this token back, so it has let go of each desk that it took.
     pub(crate) fn work(mut self, desk: DeskRank<J>, own: Looking<J>) -> (Tally<J>, Looking<J>) {
         let mut rank = desk;
         let mut in_hand = self.begin(own);
@@ -124,13 +126,13 @@ impl<'a, 'f, J: ExchangeIdentity + WorkersIdentity, M: Mailboxes, G: Gate, R: Wa
         unreachable!()
     }
 
-    // Gets the first desk.
+    // Gets the worker's first desk.
     fn begin(&mut self, own: Looking<J>) -> Result<Hand<J>, Looking<J>> {
         let first = self.next(own);
         self.or_search(first)
     }
 
-    // Works at a desk while the desk has work. Answers whether the desk has to be visited again at once.
+    // Works at a desk while the desk has work. The answer is whether the desk has to be visited again at once.
     fn visit(&mut self, rank: DeskRank<J>, desk: u32) -> (bool, DeskRank<J>) {
         let residents = self.inst.residents();
         if desk < residents {
@@ -304,7 +306,7 @@ impl<'a, 'f, J: ExchangeIdentity + WorkersIdentity, M: Mailboxes, G: Gate, R: Wa
         }
     }
 
-    // The step after a put. The put woke the receiver for the reason `wake`.
+    // The step after an event that puts a message. `wake` says what the put wakes the receiver for.
     #[inline(always)]
     fn after_put(&mut self, entry: Entry, sender: Desk, receiver: Desk, wake: Wake) -> Step {
         match entry {
@@ -324,7 +326,7 @@ impl<'a, 'f, J: ExchangeIdentity + WorkersIdentity, M: Mailboxes, G: Gate, R: Wa
         }
     }
 
-    // The step after a receipt. A desk that the receipt woke had waited for room in the mailbox.
+    // The step after a receipt. If the receipt woke a desk, this desk had waited for room in the mailbox.
     #[inline(always)]
     fn after_receipt(&mut self, entry: Entry) -> Step {
         match entry {
@@ -338,8 +340,8 @@ impl<'a, 'f, J: ExchangeIdentity + WorkersIdentity, M: Mailboxes, G: Gate, R: Wa
         }
     }
 
-    // The step after a look into a mailbox that had no message. If by the ledger no message waits either, the desk goes
-    // on to its other work.
+    // The step after a look into a mailbox that had no message. If no message waits by the ledger either, the worker
+    // goes on to the desk's other work.
     fn after_look<N: Drop>(&mut self, heard: Heard<N>, desk: Desk) -> Step {
         if let Heard::Gone = heard {
             self.shared
@@ -377,8 +379,8 @@ impl<'a, 'f, J: ExchangeIdentity + WorkersIdentity, M: Mailboxes, G: Gate, R: Wa
         Step::Leave { again: true }
     }
 
-    // After an event was entered: notes the desk that the event woke, and makes the gate's call. If the gate may keep
-    // this worker waiting, the woken desks are listed first.
+    // What a worker does after an event was entered: it notes the desk that the event woke, and makes the gate's
+    // call. If the gate may keep this worker waiting, the woken desks are listed first.
     #[inline(always)]
     fn made(&mut self, more: bool, woken: Option<u32>, wake: Wake) -> Step {
         self.missed = 0;
@@ -439,7 +441,8 @@ impl<'a, 'f, J: ExchangeIdentity + WorkersIdentity, M: Mailboxes, G: Gate, R: Wa
         self.or_search(next)
     }
 
-    // The desk that was found, or the desk that a search finds. Once the run ends, the worker's token comes back.
+    // The desk that was found, or else the desk that a search finds. Once the run ends, the worker's token comes back
+    // instead.
     fn or_search(&mut self, found: TurnOf<J>) -> Result<Hand<J>, Looking<J>> {
         match found {
             Turn::Desk(hand) => Ok(hand),
@@ -448,8 +451,9 @@ impl<'a, 'f, J: ExchangeIdentity + WorkersIdentity, M: Mailboxes, G: Gate, R: Wa
         }
     }
 
-    // If no desk is listed: asks the core once for an event, closes an exchange at rest, or rests. The worker's token
-    // comes back once the run ends or the ledger accepts no events; then the worker that closed or failed ends the run.
+    // What a worker does if no desk is listed: it asks the core once for an event, closes an exchange at rest, or
+    // rests. The worker's token comes back once the run ends or the ledger accepts no events; then the worker that
+    // closed or failed ends the run.
     fn search(&mut self, own: Looking<J>) -> Result<Hand<J>, Looking<J>> {
         let mut own = own;
         for _ in self.rt.forever() {
@@ -477,8 +481,8 @@ impl<'a, 'f, J: ExchangeIdentity + WorkersIdentity, M: Mailboxes, G: Gate, R: Wa
         unreachable!()
     }
 
-    // Takes this desk. If another worker has the desk, this worker naps a few times and looks after each nap whether a
-    // desk is listed, and then rests. A worker that naps need not be woken.
+    // Takes this desk. If another worker has it, this worker naps a few times, looks after each nap whether a desk is
+    // listed, and then rests. A worker that naps need not be woken.
     fn claim_or_look(&mut self, own: Looking<J>, desk: u32) -> TurnOf<J> {
         let mut state = self.shared.lock_state(self.rt, &mut self.inner);
         let mut found = state.value().shift.claim_or_next(own, desk);
@@ -506,8 +510,8 @@ impl<'a, 'f, J: ExchangeIdentity + WorkersIdentity, M: Mailboxes, G: Gate, R: Wa
         next
     }
 
-    // Rests until a desk is listed or the run ends. If no other worker has a desk, the worker searches on instead. Each
-    // worker that lists desks wakes one resting worker, which wakes the next if it leaves a desk listed.
+    // Rests until a desk is listed or the run ends. If no other worker has a desk, this worker searches on instead. A
+    // worker that lists desks wakes one resting worker, which wakes the next one if it leaves a desk listed.
     fn rest(&mut self, own: Looking<J>) -> TurnOf<J> {
         let mut state = self.shared.lock_state(self.rt, &mut self.inner);
         let resting = match state.value().shift.rests(own) {

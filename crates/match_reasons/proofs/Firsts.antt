@@ -16,7 +16,7 @@ use Rattle.match_reasons.specs.declared.taken.Taken.{Taken}
 use Rattle.match_reasons.specs.declared.reason.Why.{Why}
 use Rattle.match_reasons.specs.declared.reason.Why.TheVariants.{Withdrawn, NotListed, NotRanked, Matched, PrefersOwn, Full, Blocking}
 
--- a programme's members have only one last place
+-- a programme has only one last place among its members
 same_last : (theirs : List ℕ) (m : List (Option ℕ)) (p : ℕ) (a b : Option ℕ) → IsLastPlace theirs m p a → IsLastPlace theirs m p b → a ≡ b
 same_last theirs m p None None h k = refl
 same_last theirs m p None (Some b) h k = absurd (h k.0.0 k.0.1)
@@ -25,7 +25,7 @@ same_last theirs m p (Some a) (Some b) h k =
     let l = h.1 k.0.0 k.0.1 in let g = k.1 h.0.0 h.0.1 in let e = h.0.2 in let f = k.0.2 in
     ap Some (omega arith)
 
--- two true answers with the same turn are equal
+-- two answers that are both true of r and p, and are tried at the same turn, are equal
 same_holding : (inst : Instance) (mine theirs : List ℕ) (m : List (Option ℕ)) (r p : ℕ) (a b : Why) →
     Holds inst mine theirs m r p a → Holds inst mine theirs m r p b → turn a ≡ turn b → a ≡ b
 same_holding inst mine theirs m r p Withdrawn Withdrawn h k e = refl
@@ -96,7 +96,7 @@ asks inst is mine theirs m r p w within a not has = record {
     would None e = tt
     would (Some own) e = resident_before inst r p mine theirs p own w within ((is.both_rank p r).0 a) (has own e)
 
--- resident r has no programme, or has a programme that r does not list
+-- if resident r has no programme, there is none that programme p would not stand before on the list
 pub before_none : (mine : List ℕ) (m : List (Option ℕ)) (r p : ℕ) → programme_of m r ≡ None → (own : ℕ) → IsMemberOf m r own → IsBefore mine p own
 before_none mine m r p none own is = absurd (cc)
 
@@ -155,7 +155,7 @@ tells_full inst is mine theirs m r p a w within h stable wants =
     go (Full i l q) k none = tt
     go Blocking k none = stable.nothing_blocks r p k
 
--- when each of the first four answers is the first true answer, and when the fifth is
+-- if one of the two has withdrawn, the first true answer is that
 module _ (inst : Instance) (mine theirs : List ℕ) (m : List (Option ℕ)) (r p : ℕ) where
   pub first_withdrawn : HasWithdrawn inst r p → IsFirst inst mine theirs m r p Withdrawn
   first_withdrawn h = record { holds = h; none_before = λ other l k. absurd (omega arith) }

@@ -37,7 +37,7 @@ module _ (inst : Instance) (written : Written) (m : List (Option ℕ)) (members 
   lists : (r p : ℕ) → AreListsOf inst r p (list_at written.resident_lists r) (list_at written.programme_lists p)
   lists r p = lists_of_pair inst written r p made
 
-  -- a resident has a programme exactly if the programme's receipt has the resident
+  -- the reason for a resident's own programme is `matched`
   told_matched : (r p : ℕ) → IsMemberOf m r p → why r p ≡ Matched
   told_matched r p e = let listed = (residents r).own_listed p e in ((residents r).reasons p listed).at e
 
@@ -77,7 +77,7 @@ module _ (inst : Instance) (written : Written) (m : List (Option ℕ)) (members 
   is_member : (r p : ℕ) → IsListed (members p) r → IsMemberOf m r p
   is_member r p l = let told = (agree r p).member l in own_from_matched r p (programme_of m r) refl told.0 told.1
 
-  -- the members told are as many as the placement has
+  -- a programme's receipt tells as many members as the placement gives the programme
   same_count : (p : ℕ) → member_count m p ≡ length (members p)
   same_count p =
       let most = different_among (members_of m p) (members p) (members_differ m p) (λ r l. told_member r p (member_from_listed m p r l)) in

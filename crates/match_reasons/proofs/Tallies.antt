@@ -1,16 +1,20 @@
 -- The number of a programme's members and the place of the last-ranked one, after one more resident of the placement is
 -- looked at.
-use Rattle.std.proofs.Common.{◌≡◌, ℕ, ◌+◌, ◌<◌, ◌≤◌, inl, inr, false, List, length, take, get_or, max, arith, refl, ap, ◌∙◌, subst, unwrap_or}
+use Rattle.std.proofs.Common.{◌≡◌, ℕ, ◌+◌, ◌<◌, ◌≤◌, inl, inr, false, List, length, take, get_or, set, slice_get, replicate, max, arith, refl, sym, ap, ◌∙◌, subst, unwrap_or}
 use Rattle.std.specs.Prelude.{Option, Some, None}
-use Rattle.std.proofs.lemmas.Bool.{cases_lt, ne_eqb}
-use Rattle.std.proofs.lemmas.List.{take_more}
+use Rattle.std.proofs.lemmas.Bool.{cases_eq, cases_lt, ne_eqb}
+use Rattle.std.proofs.lemmas.List.{take_more, length-set, length-replicate, get_or-set_same, get_or-set_other, get_or-replicate, length-take-le}
+use Rattle.std.proofs.lemmas.Option.{get_or_from_slice_get, slice_get-get_or, slice_get_within, same_Some}
 use Rattle.std.proofs.Math.Seq.{take-length}
-use Rattle.std.proofs.lemmas.List.Sums.{sum_by_push}
+use Rattle.std.proofs.lemmas.List.Sums.{sum_by_push, count_by-le-length}
 use Rattle.match_model.specs.Ranking.{place}
 use Rattle.match_model.specs.Placement.{programme_of, IsMemberOf, holds, member_count}
 use Rattle.settle_law.proofs.Counting.{one_if}
 use Rattle.settle_law.proofs.Placements.{holds_true, member_within}
-use Rattle.match_reasons.specs.Reason.{IsLastPlace, IsTaken}
+use Rattle.match_model.specs.Instance.{list_at}
+use Rattle.match_model.specs.Written.{Written}
+use Rattle.match_reasons.specs.declared.taken.Taken.{Taken}
+use Rattle.match_reasons.specs.Reason.{AreTaken, IsLastPlace, IsTaken}
 
 -- the last place among those of the first n residents who are members of p, or none if none of them is a member
 abbrev pub IsLastOf : List ℕ → List (Option ℕ) → ℕ → ℕ → Option ℕ → Type 0
@@ -109,3 +113,56 @@ IsSoFar-all theirs m p n members last all h = record {
     go : (o : Option ℕ) → IsLastOf theirs m p n o → IsLastPlace theirs m p o
     go None l = λ s is. l s (let b = member_within m s p is in omega arith) is
     go (Some k) l = ((l.0.0, l.0.1, l.0.2), λ s is. l.1 s (let b = member_within m s p is in omega arith) is)
+
+-- at most n of the first n residents are members of p
+pub few_so_far : (theirs : List ℕ) (m : List (Option ℕ)) (p n members : ℕ) (last : Option ℕ) → n ≤ length m → IsSoFar theirs m p n members last → members ≤ n
+few_so_far theirs m p n members last l h = let are = h.members_are in omega (arith, are, count_by-le-length (holds p) (take n m), length-take-le n m l)
+
+-- the members and the last place with one more member, who stands at this place of the programme's list
+abbrev pub with_member : Taken → ℕ → Taken
+with_member t at = record { members = t.members + 1; last = Some (max (unwrap_or t.last 0) at) }
+
+-- for each programme the number of members and the last place are right for the first n residents
+abbrev pub AreSoFar : Written → List (Option ℕ) → ℕ → List Taken → Type 0
+AreSoFar written m n takens = (p : ℕ) (t : Taken) → slice_get takens p ≡ Some t → IsSoFar (list_at written.programme_lists p) m p n t.members t.last
+
+abbrev pub nobody_yet : Taken
+nobody_yet = record { members = 0; last = None }
+
+pub AreSoFar-none : (written : Written) (m : List (Option ℕ)) (n : ℕ) → AreSoFar written m 0 (replicate n nobody_yet)
+AreSoFar-none written m n p t at =
+    let w : p < n = omega (arith, slice_get_within (replicate n nobody_yet) p t at, length-replicate n nobody_yet) in
+    let same : nobody_yet ≡ t = sym (get_or-replicate n p nobody_yet t w) ∙ get_or_from_slice_get (replicate n nobody_yet) p t t at in
+    subst (λ (z : Taken). IsSoFar (list_at written.programme_lists p) m p 0 z.members z.last) same (IsSoFar-none (list_at written.programme_lists p) m p)
+
+-- if resident r is a member of none of the programmes, what was noted is right for one resident more
+pub AreSoFar-other : (written : Written) (m : List (Option ℕ)) (r : ℕ) (takens : List Taken) → r < length m → AreSoFar written m r takens →
+    ((p : ℕ) → p < length takens → IsMemberOf m r p → ⊥) → AreSoFar written m (r + 1) takens
+AreSoFar-other written m r takens l h n p t at =
+    IsSoFar-other (list_at written.programme_lists p) m p r t.members t.last l (h p t at) (n p (slice_get_within takens p t at))
+
+-- if resident r is a member of programme p, what was noted is right for one resident more once p's note has this
+-- member
+pub AreSoFar-more : (written : Written) (m : List (Option ℕ)) (r p : ℕ) (takens : List Taken) (t : Taken) → r < length m → AreSoFar written m r takens →
+    slice_get takens p ≡ Some t → IsMemberOf m r p → AreSoFar written m (r + 1) (set takens p (with_member t (place (list_at written.programme_lists p) r)))
+AreSoFar-more written m r p takens t l h at is q u here = elim (cases_eq q p) [
+  | inl e ↦
+      let same : more ≡ u = sym (get_or-set_same takens p more u within) ∙ ap (λ z. get_or (set takens p more) z u) (sym e) ∙ get_or_from_slice_get (set takens p more) q u u here in
+      subst (λ z. IsSoFar (list_at written.programme_lists z) m z (r + 1) u.members u.last) (sym e)
+      (subst (λ (z : Taken). IsSoFar (list_at written.programme_lists p) m p (r + 1) z.members z.last) same
+      (IsSoFar-more (list_at written.programme_lists p) m p r t.members t.last l (h p t at) is))
+  | inr d ↦
+      let w : q < length takens = omega (arith, slice_get_within (set takens p more) q u here, length-set takens p more) in
+      let old : slice_get takens q ≡ Some u =
+      slice_get-get_or takens q u w ∙ ap Some (sym (get_or-set_other takens p q more u d) ∙ get_or_from_slice_get (set takens p more) q u u here) in
+      IsSoFar-other (list_at written.programme_lists q) m q r u.members u.last l (h q u old) (λ k. d (sym (same_Some p q (sym is ∙ k))))
+]
+  where
+    more : Taken
+    more = with_member t (place (list_at written.programme_lists p) r)
+
+    within : p < length takens
+    within = slice_get_within takens p t at
+
+pub AreSoFar-all : (written : Written) (m : List (Option ℕ)) (n : ℕ) (takens : List Taken) → n ≡ length m → AreSoFar written m n takens → AreTaken written m takens
+AreSoFar-all written m n takens all h p t at = IsSoFar-all (list_at written.programme_lists p) m p n t.members t.last all (h p t at)

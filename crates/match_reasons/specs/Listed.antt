@@ -1,4 +1,4 @@
--- An instance with the lists of which it was made.
+-- An instance together with the lists of which it was made.
 use Rattle.match_model.specs.Instance.{Instance}
 use Rattle.match_model.specs.Written.{AreWritten, Written}
 

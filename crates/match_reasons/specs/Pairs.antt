@@ -11,19 +11,20 @@ use Rattle.match_reasons.specs.declared.reason.Why.TheVariants.{Withdrawn, NotRa
 
 -- Of one receipt.
 
--- all places went to others: the last rank is before the resident's, or there are no places
+-- what `full` tells of the places: there are none, or the last rank told is before the resident's
 abbrev pub IsLastTold : ℕ → Option ℕ → ℕ → Type 0
 IsLastTold rank None quota = quota ≡ 0
 IsLastTold rank (Some last) quota = last < rank
 
--- a reason for a programme that the resident would have taken
+-- the reason can be that for a programme which the resident would rather have: `Withdrawn`, `NotRanked`, or `Full`
+-- with all places gone to others
 abbrev pub IsPassed : Why → Type 0
 IsPassed Withdrawn = Unit {0}
 IsPassed NotRanked = Unit {0}
 IsPassed (Full rank last quota) = IsLastTold rank last quota
 IsPassed other = ⊥
 
--- a reason for a programme after the resident's own
+-- the reason can be that for a programme after the resident's own: `Withdrawn`, `NotRanked` or `PrefersOwn`
 abbrev pub IsPast : Why → Type 0
 IsPast Withdrawn = Unit {0}
 IsPast NotRanked = Unit {0}
@@ -36,12 +37,13 @@ pub record CanStandFor (mine : List ℕ) (own : Option ℕ) (p : ℕ) (why : Why
   pub before : Prefers mine p own → (own ≡ Some p → ⊥) → IsPassed why
   pub after : (q : ℕ) → own ≡ Some q → IsBefore mine q p → IsPast why
 
--- a resident's receipt, of a resident with this list and this own programme
+-- what a good receipt tells of a resident with this list: the own programme is on it, and each reason can stand there
 pub record IsGoodResident (mine : List ℕ) (own : Option ℕ) (why : ℕ → Why) : Type 0 where
   pub own_listed : (q : ℕ) → own ≡ Some q → IsListed mine q
   pub reasons : (p : ℕ) → IsListed mine p → CanStandFor mine own p (why p)
 
--- a programme's receipt, of a programme with this list and this quota
+-- what a good receipt tells of a programme with this list and this quota: no more members than the quota, each on the
+-- list and told once
 pub record IsGoodProgramme (theirs members : List ℕ) (quota : ℕ) : Type 0 where
   pub fits : length members ≤ quota
   pub none_twice : HasNoRepeats members
@@ -49,7 +51,7 @@ pub record IsGoodProgramme (theirs members : List ℕ) (quota : ℕ) : Type 0 wh
 
 -- Of a pair.
 
--- the last rank told is that of the members told
+-- the last rank told is that of the last of these members; none, if there are no members
 abbrev pub IsLastOfMembers : List ℕ → List ℕ → Option ℕ → Type 0
 IsLastOfMembers theirs members None = (s : ℕ) → ¬ IsListed members s
 IsLastOfMembers theirs members (Some last) =
@@ -89,12 +91,12 @@ PairsLaw =
     ((r p : ℕ) → Agree inst (list_at written.resident_lists r) (list_at written.programme_lists p) (members p) r p (why r p)) →
     IsStable inst m
 
--- the members told are those whom the placement gives to the programme
+-- these are the members whom the placement gives to programme p, each once
 pub record AreMembersOf (m : List (Option ℕ)) (p : ℕ) (members : List ℕ) : Type 0 where
   pub are : (s : ℕ) → IsListed members s ↔ IsMemberOf m s p
   pub none_twice : HasNoRepeats members
 
--- what all receipts tell over a placement is good and agrees
+-- for this placement, each resident's and each programme's receipt is good, and each pair's receipts agree
 pub record AllAgree (inst : Instance) (written : Written) (m : List (Option ℕ)) (members : ℕ → List ℕ) (why : ℕ → ℕ → Why) : Type 0 where
   pub residents : (r : ℕ) → IsGoodResident (list_at written.resident_lists r) (programme_of m r) (why r)
   pub programmes : (p : ℕ) → IsGoodProgramme (list_at written.programme_lists p) (members p) (quota_of inst p)
@@ -109,7 +111,8 @@ HonestLaw =
     ((r p : ℕ) → IsFirst inst (list_at written.resident_lists r) (list_at written.programme_lists p) m r p (why r p)) →
     AllAgree inst written m members why
 
--- If `full` fits a good receipt of a programme with places, at least as many ranks as places are up to the last one.
+-- If `full` with a last rank fits a good receipt of a programme, the programme's list has at least as many ranks up
+-- to this last one as the programme has places.
 abbrev pub RoomLaw : Type 0
 RoomLaw =
     (theirs members : List ℕ) (places r rank last quota : ℕ) →

@@ -1,31 +1,36 @@
 -- Why a placement doesn't give a programme to a resident, by the two members' lists as they were written.
-use Rattle.std.specs.Prelude.{◌≡◌, ℕ, ◌<◌, ◌≤◌, ◌⊎◌, true, Option, Some, None, List}
+use Rattle.std.specs.Prelude.{◌≡◌, ℕ, ◌<◌, ◌≤◌, ◌⊎◌, true, Option, Some, None, List, slice_get}
 use Rattle.match_model.specs.Ranking.{place, IsBefore, IsListed}
-use Rattle.match_model.specs.Instance.{Instance, IsProgramme, Acceptable, is_withdrawn, list_of_resident, quota as quota_of, rank as rank_in}
+use Rattle.match_model.specs.Instance.{Instance, IsProgramme, Acceptable, is_withdrawn, list_at, list_of_resident, quota as quota_of, rank as rank_in}
 use Rattle.match_model.specs.Placement.{programme_of, IsMemberOf, member_count}
+use Rattle.match_model.specs.Written.{Written}
 use Rattle.settle_law.specs.Stable.{Prefers, Blocks}
 use Rattle.match_reasons.specs.declared.taken.Taken.{Taken}
 use Rattle.match_reasons.specs.declared.reason.Why.{Why}
 use Rattle.match_reasons.specs.declared.reason.Why.TheVariants.{Withdrawn, NotListed, NotRanked, Matched, PrefersOwn, Full, Blocking}
 
--- r has a programme that stands before p in r's list; the two ranks are the positions of these programmes
+-- r has a programme that stands before p in r's list; the ranks are the positions of these two programmes
 pub record HasBetter (mine : List ℕ) (m : List (Option ℕ)) (r p own own_rank rank : ℕ) : Type 0 where
   pub has_own : IsMemberOf m r own
   pub own_ranked : rank_in mine own ≡ Some own_rank
   pub ranked : rank_in mine p ≡ Some rank
   pub before : own_rank < rank
 
--- the last position that a member of p has in p's list; none if p has no members
+-- the last position in p's list that a member of p has; none if p has no members
 abbrev pub IsLastPlace : List ℕ → List (Option ℕ) → ℕ → Option ℕ → Type 0
 IsLastPlace theirs m p None = (s : ℕ) → ¬ IsMemberOf m s p
 IsLastPlace theirs m p (Some k) =
     ((s : ℕ) × IsMemberOf m s p × (place theirs s ≡ k))
     × ((s : ℕ) → IsMemberOf m s p → place theirs s ≤ k)
 
--- how many members p has, and the last of their positions in p's list
+-- how many members p has, and the last position in p's list that one of them has
 pub record IsTaken (theirs : List ℕ) (m : List (Option ℕ)) (p : ℕ) (taken : Taken) : Type 0 where
   pub members : taken.members ≡ member_count m p
   pub last : IsLastPlace theirs m p taken.last
+
+-- entry p says how many members programme p has, and the last of their positions
+abbrev pub AreTaken : Written → List (Option ℕ) → List Taken → Type 0
+AreTaken written m takens = (p : ℕ) (t : Taken) → slice_get takens p ≡ Some t → IsTaken (list_at written.programme_lists p) m p t
 
 -- All places of p went to residents who stand before r in p's list. The numbers are r's position, the last position of
 -- those residents, and p's quota.
@@ -60,18 +65,18 @@ turn (PrefersOwn own own_rank rank) = 4
 turn (Full rank last_rank quota) = 5
 turn Blocking = 6
 
--- the first answer that holds
+-- the answer is the first, in their order, that is true of r and p
 pub record IsFirst (inst : Instance) (mine theirs : List ℕ) (m : List (Option ℕ)) (r p : ℕ) (answer : Why) : Type 0 where
   pub holds : Holds inst mine theirs m r p answer
   pub none_before : (other : Why) → turn other < turn answer → ¬ Holds inst mine theirs m r p other
 
--- r and p rank each other, r is not with p, and r would rather have p than what r has
+-- r and p rank each other, r is not with p, and r would rather have p than its own programme, or has none
 pub record Wants (inst : Instance) (m : List (Option ℕ)) (r p : ℕ) : Type 0 where
   pub acceptable : Acceptable inst r p
   pub not_placed : ¬ IsMemberOf m r p
   pub would : Prefers (list_of_resident inst r) p (programme_of m r)
 
--- the answer is that all places went to residents who stand before the one who asks
+-- the answer is `Full`: all places went to residents who stand before the one who asks
 abbrev pub TellsFull : Why → Type 0
 TellsFull Withdrawn = ⊥
 TellsFull NotListed = ⊥
@@ -110,11 +115,11 @@ pub record Asks (inst : Instance) (mine theirs : List ℕ) (m : List (Option ℕ
   pub wants : Wants inst m r p
   pub none_yet : (other : Why) → turn other < 5 → ¬ Holds inst mine theirs m r p other
 
--- there is a last position, and it is not before this position
+-- there is a last position, and it is this position or after it
 abbrev pub StandsPast : Option ℕ → ℕ → Type 0
 StandsPast None rank = ⊥
 StandsPast (Some last) rank = rank ≤ last
 
--- the programme has fewer members than places, or its last member does not stand before this position
+-- the programme has fewer members than places, or its last member stands at this position or after it
 abbrev pub HasRoomAt : Taken → ℕ → ℕ → Type 0
 HasRoomAt taken quota rank = (taken.members < quota) ⊎ StandsPast taken.last rank

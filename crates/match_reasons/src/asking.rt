@@ -9,12 +9,12 @@ use crate::reason::Why;
 use crate::taken::{Taken, is_member};
 use match_model::{Assignment, ProgrammeNo, ResidentNo};
 
-/// Why a placement does not match this resident with this programme, or that it does. The result is the first of the
-/// possible answers that is true, by the lists of the two members as they were written.
+/// Why a placement does not match this resident with this programme, or that it does: the first of the possible
+/// answers that is true, by the two members' lists as they were written.
 ///
 /// The resident and the programme are members of the instance, and the placement has an entry for each resident.
-/// `taken` is what `places_taken` returned for the same programme, placement and lists. The instance was made from the
-/// lists, since `Listed` accepts no other lists. If the placement is stable, the answer is never `Blocking`.
+/// `taken` is what `places_taken` returned for the same programme, placement and lists. The instance was made from
+/// the lists, since `Listed` accepts no other lists. If the placement is stable, the answer is never `Blocking`.
 pub fn why(
     listed: &Listed,
     sheet: &Assignment,
@@ -39,7 +39,7 @@ pub fn why(
     ensures full { IsStable listed.now.instance sheet.now
         → Wants listed.now.instance sheet.now resident programme → TellsFull result }
 {
-    // For the proof alone: the instance was made from the lists.
+    // Only the proof needs this call: by its clause the instance was made from the lists.
     let _inst = listed.instance();
     first_reason(listed, sheet, taken, resident, programme)
 }
@@ -81,8 +81,9 @@ fn first_reason(
     }
 }
 
-/// The answer that lies with the resident, if there is one: a withdrawal, a list without the other member, a match with
-/// this programme, or a programme that the resident ranks before this one.
+/// The first true answer among those that need no look at how the programme's places are taken: a withdrawal, a list
+/// without the other member, a match with this programme, or a programme that the resident ranks before it. None if
+/// none of these is true.
 fn residents_reason(
     listed: &Listed,
     sheet: &Assignment,
@@ -108,7 +109,8 @@ fn residents_reason(
     let Some(rank) = written.rank_of_programme(resident, programme) else {
         return Some(Why::NotListed);
     };
-    // Neither member is withdrawn, and the resident listed the programme. So a missing rank lies with the programme.
+    // Neither member is withdrawn, and the resident listed the programme. So if there is no rank, the programme
+    // didn't list the resident.
     let Some(_) = inst.rank_at_resident(resident, programme) else {
         return Some(Why::NotRanked);
     };

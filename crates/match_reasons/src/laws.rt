@@ -7,12 +7,14 @@ pub fn law_pairs()
     ensures { PairsLaw }
 {}
 
-/// If a placement is stable and each reason is the first true answer, all receipts are good and agree.
+/// If a placement is stable and each reason is the first answer that is true, all receipts are good, and
+/// each pair's receipts agree.
 pub fn law_honest()
     ensures { HonestLaw }
 {}
 
-/// If `full` agrees with a programme's receipt, the last rank told is at least the number of places.
+/// If an answer `full` with a last rank fits a programme's good receipt, this last rank, counted from 1, is
+/// at least the number of places.
 pub fn law_room()
     ensures { RoomLaw }
 {}

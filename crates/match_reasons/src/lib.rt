@@ -12,4 +12,4 @@ pub use asking::why;
 pub use laws::{law_honest, law_pairs, law_room};
 pub use listed::Listed;
 pub use reason::Why;
-pub use taken::{Taken, places_taken};
+pub use taken::{Taken, all_places_taken, places_taken};

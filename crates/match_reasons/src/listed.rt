@@ -26,7 +26,7 @@ impl<'a> Model for Listed<'a> {
 }
 
 impl<'a> Listed<'a> {
-    /// An instance with the lists from which it was made.
+    /// An instance together with the lists from which it was made.
     pub fn new(inst: &'a Instance, written: &'a WrittenLists) -> Listed<'a>
         requires { AreWritten inst.now written.now }
         ensures instance { result.instance ≡ inst.now }
@@ -41,7 +41,7 @@ impl<'a> Listed<'a> {
         ensures whole { IsInstance self.now.instance }
         ensures lists { AreItsLists self.now }
     {
-        // For the proof alone: the instance is well formed.
+        // Only the proof needs this call: by its clause the instance is well formed.
         let _residents = self.inst.residents();
         self.inst
     }

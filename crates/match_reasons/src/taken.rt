@@ -1,16 +1,17 @@
 //! How a programme's places are taken in a placement.
-ghost use Rattle.std.specs.Prelude.{◌≡◌, ◌<◌, ◌↔◌, length, IsTrue, max, unwrap_or};
+ghost use Rattle.std.specs.Prelude.{◌≡◌, ◌+◌, ◌<◌, ◌^◌, ◌↔◌, length, IfOk, IsTrue, Some, max, unwrap_or};
 ghost use Rattle.match_model.specs.Ranking.{place};
 ghost use Rattle.match_model.specs.Instance.{list_at};
 ghost use Rattle.match_model.specs.Placement.{IsMemberOf};
-ghost use Rattle.match_reasons.specs.Reason.{IsTaken, HasRoomAt};
+ghost use Rattle.match_reasons.specs.Reason.{AreTaken, IsTaken, HasRoomAt};
 
 use crate::listed::Listed;
 use match_model::{Assignment, ProgrammeNo, ResidentNo, WrittenLists};
+use std::alloc::{AllocError, Global};
 
 /// How many members a programme has in a placement, and at which place of the programme's list, as it was written, its
 /// last-ranked member stands. A member who isn't on the list counts as behind all who are on it.
-#[derive(Clone, Copy, Debug, PartialEq, Eq)]
+#[derive(Clone, Copy, Debug, Default, PartialEq, Eq)]
 pub struct Taken {
     /// How many members the programme has.
     pub members: u32,
@@ -19,7 +20,19 @@ pub struct Taken {
 }
 
 impl Taken {
-    /// Whether the programme has fewer members than places, or has a member who stands no earlier than this rank.
+    // Counts a member who stands at this place of the programme's list.
+    fn add(&mut self, place: usize)
+        requires { self.old.members + 1 < 2 ^ 32 }
+        ensures { self.new ≡ record {
+          members = self.old.members + 1;
+          last = Some (max (unwrap_or self.old.last 0) place);
+        } }
+    {
+        self.members += 1;
+        self.last = Some(later(self.last, place));
+    }
+
+    /// Whether the programme has fewer members than places, or a member who stands at this rank or behind it.
     pub(crate) fn has_room(&self, quota: u32, rank: usize) -> bool
         ensures { IsTrue result ↔ HasRoomAt self.now quota rank }
     {
@@ -51,7 +64,7 @@ fn place_of_resident(written: &WrittenLists, programme: ProgrammeNo, resident: R
     }
 }
 
-// The larger of two places. The first place may be none.
+// The larger of two places, of which the first may be none.
 fn later(last: Option<usize>, place: usize) -> usize
     ensures { result ≡ max (unwrap_or last 0) place }
 {
@@ -68,14 +81,36 @@ pub fn places_taken(listed: &Listed, sheet: &Assignment, programme: ProgrammeNo)
         programme result }
 {
     let written = listed.lists();
-    let mut members = 0;
-    let mut last = None;
+    let mut taken = Taken::default();
     for r in 0..sheet.len() {
         let resident = ResidentNo(r);
         if is_member(sheet, resident, programme) {
-            members += 1;
-            last = Some(later(last, place_of_resident(written, programme, resident)));
+            taken.add(place_of_resident(written, programme, resident));
         }
     }
-    Taken { members, last }
+    taken
+}
+
+/// How the places of each of this many programmes are taken. This call, too, makes one walk over the placement.
+pub fn all_places_taken(
+    alloc: Global,
+    listed: &Listed,
+    sheet: &Assignment,
+    programmes: u32,
+) -> Result<Vec<Taken>, AllocError>
+    ensures each { IfOk result (λ takens. length takens.items ≡ programmes) }
+    ensures taken { IfOk result (λ takens. AreTaken listed.now.written sheet.now takens.items) }
+{
+    let written = listed.lists();
+    let mut takens = vec![in alloc; Taken::default(); programmes as usize]?;
+    for r in 0..sheet.len() {
+        let resident = ResidentNo(r);
+        let Some(programme) = sheet.get(resident) else {
+            continue;
+        };
+        if programme.0 < programmes {
+            takens[programme.0 as usize].add(place_of_resident(written, programme, resident));
+        }
+    }
+    Ok(takens)
 }

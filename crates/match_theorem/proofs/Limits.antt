@@ -61,7 +61,7 @@ limit_none lim before row none = by _ none
 pub one_kind : (row : Fields) (j k : ℕ) → is_kind j row ≡ true → is_kind k row ≡ true → j ≡ k
 one_kind row j k e f = search (rules, e, f)
 
--- the quota that a record declares
+-- the quota that a record declares, or 0 if it declares none
 abbrev quota_in : Fields → ℕ
 quota_in row = unwrap_or (number_of (field row 2)) 0
 

@@ -147,14 +147,15 @@ pairs_within : (lim : Limits) (rows : List Fields) → pairs_fault lim rows ≡ 
 unfolding pairs_fault
 pairs_within lim rows none = search (rules, unless_none (nat_le (pair_count (instance_of (draft_of rows))) (most_pairs lim)) (Model (length rows) model.TooManyPairs) none)
 
--- what the records of a docket without a fault within these limits hand in to the builder
+-- the first pass finds no fault in the records, and what they hand in to a builder is a draft and
+-- an instance within the limits
 pub record AreSound (lim : Limits) (rows : List Fields) : Type 0 where
   pub reading : first_from (reading_fault lim) [] rows ≡ None
   pub draft : IsDraft (record (draft_of rows) { limits = lim })
   pub few : pair_count (instance_of (draft_of rows)) ≤ most_pairs lim
   pub instance : IsInstance (instance_of (draft_of rows))
 
--- the first pass finds no fault in a record but one of its own
+-- if no record has a fault in the first pass's two tests, none has one in the first of these tests
 reading_sound : (lim : Limits) (before rows : List Fields) → first_from (first_pass_fault lim) before rows ≡ None → first_from (reading_fault lim) before rows ≡ None
 unfolding first_from
 reading_sound lim before [] h = refl

@@ -9,13 +9,13 @@ use Rattle.residency.specs.Serving.{AreDocket, WritesMatch}
 use Rattle.residency.specs.Program.{EndsServing, EndsServingWithin}
 use Rattle.match_theorem.specs.Theorem.{market_of, WritesNationalResult, WritesResult}
 
--- the sheet of the result was appended; nothing follows it unless a journal is wanted
+-- the sheet of the docket's result was appended, and after it nothing unless a journal is wanted
 pub record WritesSheet (bytes : List ℕ) (o : MatchOptions) (old new : Option (List ℕ)) : Type 0 where
   pub journal : List ℕ
   pub no_more : o.journal ≡ Absent → journal ≡ []
   pub writes : WritesResult (market_of bytes) journal old new
 
--- every match of the docket with these bytes writes the sheet of its result
+-- if a match over the docket with these bytes wrote what it has to write, it wrote the sheet of the docket's result
 abbrev pub MatchLaw : Type 0
 MatchLaw =
     (bytes : List ℕ) (o : MatchOptions) (old new : Option (List ℕ)) →
@@ -29,7 +29,8 @@ ProgramLaw =
     EndsServing (Match o) (Some bytes) old new 0 →
     WritesSheet bytes o old new
 
--- the sheet of the result was appended, within the national limits; nothing follows it unless a journal is wanted
+-- the sheet of the docket's result was appended, within the national limits, and after it nothing unless a journal
+-- is wanted
 pub record WritesNationalSheet (bytes : List ℕ) (o : MatchOptions) (old new : Option (List ℕ)) : Type 0 where
   pub journal : List ℕ
   pub no_more : o.journal ≡ Absent → journal ≡ []

@@ -10,7 +10,7 @@ use Rattle.records.specs.RowText.{row}
 use Rattle.docket.specs.Contents.{programmes_of, residents_of, draft_of}
 use Rattle.records.specs.Reading.{rows_of}
 
--- the members' names in the order of their numbers, and the instance
+-- the names of both sides in the order of their numbers, and the instance
 pub record Market : Type 0 where
   pub programmes : List (List ℕ)
   pub residents : List (List ℕ)
@@ -56,7 +56,8 @@ pub record WritesResult (k : Market) (journal : List ℕ) (old new : Option (Lis
   pub result : IsResult k.instance placement
   pub appended : Appends old new (market_sheet k placement ++ journal)
 
--- the same within the national limits
+-- The market's lists are strict and mutual, and its numbers are within the national limits. The sheet of its result
+-- was appended, and then this journal.
 pub record WritesNationalResult (k : Market) (journal : List ℕ) (old new : Option (List ℕ)) : Type 0 where
   pub lists : IsInstance k.instance
   pub few_programmes : length k.instance.quotas ≤ 10000

@@ -13,7 +13,7 @@ pub fn law_program()
     ensures { ProgramLaw }
 {}
 
-/// The same of the program for the national limits.
+/// What `law_program` says, for the program with the national limits.
 pub fn law_national_program()
     ensures { NationalLaw }
 {}

@@ -1,4 +1,4 @@
-//! Runs by one worker, and in which order the worker visits the desks.
+//! Runs by one worker, and the order in which this worker visits the desks.
 use crate::runs::ran;
 use exchange_core::{Capacity, Event};
 use match_model::{ProgrammeNo, ResidentNo};
@@ -8,7 +8,7 @@ use test_support::events::{A, B, HOLD, RELEASE, X, Y, Z, answer, hear, offer, ta
 use test_support::instances::{Members, TWO_PLACES};
 
 // The journal of a run by one worker over `TWO_PLACES`, through full mailboxes. The worker visits residents before
-// programmes, and first of all the resident that was woken last. Programmes that are woken for a hold alone come last.
+// programmes, and of these the one that was woken last. Programmes that are woken only for a hold come last.
 fn journal_by_one() -> [Event; 19] {
     [
         offer(A, X),
@@ -68,9 +68,9 @@ fn what_a_visit_woke_comes_before_any_programme(rt: HostRuntime) -> Result<(), F
     Ok(())
 }
 
-// Markets with mailboxes that have room for one message. In each a programme waits for room at a resident's mailbox,
-// while an answer of another resident waits at the programme. When the programme is called because of the room, it
-// offers first, and then it hears that answer.
+// Markets whose mailboxes have room for one message. In each a programme waits for room in a resident's mailbox,
+// while an answer of another resident waits for the programme. When there is room and the programme is called, it
+// offers first, and then hears that answer.
 const CALLED: [(Members, Event, Event); 3] = [
     (
         (
@@ -148,8 +148,8 @@ fn a_called_programme_offers_first_and_hears_then(rt: HostRuntime) -> Result<(),
     Ok(())
 }
 
-// Markets as in `CALLED`, in which another programme uses the room before the called programme comes. The called
-// programme goes on waiting, and hears its answer.
+// Markets as in `CALLED`, but another programme uses the room before the called programme comes. The called programme
+// waits on, and hears the answer.
 const REFUSED_AGAIN: [(Members, Event, Event); 2] = [
     (
         (

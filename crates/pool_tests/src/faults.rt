@@ -1,5 +1,5 @@
-//! Faults of a run that have a real cause: mailboxes that slip, which means that they answer what a good mailbox never
-//! answers.
+//! Faults of a run with a real cause: mailboxes that slip, which means that they give answers that a good mailbox
+//! never gives.
 use crate::slips::{PutSlip, Slip, Slipping, TakeSlip};
 use exchange_core::{AnswerKind, AnswerNote, Capacity, Desk, Event, OfferNote};
 use match_model::{ProgrammeNo, ResidentNo};
@@ -11,8 +11,8 @@ use test_gates::gates::{AfterAnother, Counting};
 use test_support::events::{A, B, DECLINE, HOLD, RELEASE, X, Y, Z, hear, take};
 use test_support::instances::{Members, TWO_BY_TWO, TWO_PLACES, has_places, made};
 
-// What a run with this number of workers returns if one mailbox answers wrongly: its fault, or whether the run closed
-// with each resident at the expected programme.
+// What a run with this number of workers returns if one mailbox gives a wrong answer: its fault, or whether the run
+// closed with each resident at the expected programme.
 fn told_by<G: Gate + Sync, R: Threads + Wait + Sync + Send + Copy>(
     rt: R,
     alloc: Global,
@@ -43,8 +43,8 @@ const LARGER: (Members, &[Option<u32>]) = (TWO_PLACES, &[Some(1), Some(0), Some(
 // A number that no programme has.
 const STRANGE: ProgrammeNo = ProgrammeNo(7);
 
-// Slips after which a run goes on. A message that was refused as full is put again, and a message that was missing is
-// looked for again.
+// Slips after which a run goes on. A message that was refused as if the mailbox were full is put again, and a message
+// that was missing is looked for again.
 const PASSING: [Slip; 8] = [
     Slip::Offer(X, 0, PutSlip::Full),
     Slip::Offer(X, 1, PutSlip::Full),
@@ -70,7 +70,7 @@ fn goes_on_after_full_and_nothing(rt: HostRuntime) {
     }
 }
 
-// Slips in which a mailbox loses its other end, with the desk of this mailbox.
+// Slips in which a mailbox loses its other end, each with the desk of this mailbox.
 fn losing() -> [(Slip, Desk); 8] {
     [
         (Slip::Offer(X, 0, PutSlip::Gone), Desk::Resident(X)),
@@ -108,8 +108,8 @@ fn tells_whose_mailbox_is_gone(rt: HostRuntime) {
     }
 }
 
-// Slips that last until the end of the run, with the desk that stays pending. In some, an offer of a programme or an
-// answer of a resident finds no room. In others, a desk finds no message in its mailbox, though a message waits.
+// Slips that last until the end of the run, each with the desk that stays pending. In some, an offer or an answer
+// finds no room. In others, a desk finds no message in its mailbox, though a message waits.
 fn lasting() -> [(Slip, Desk); 8] {
     [
         (Slip::Offer(Y, 0, PutSlip::AlwaysFull), Desk::Programme(A)),
@@ -153,15 +153,15 @@ fn tells_the_desk_that_is_left_pending(rt: HostRuntime) {
     }
 }
 
-// A wrong answer of a mailbox: the resident's first take gives an offer of this programme. With it stands the take that
-// the worker then tries to enter.
+// A slip in which the resident's first take gives an offer of this programme, with the take that the worker then
+// tries to enter.
 fn offer_of(resident: ResidentNo, programme: ProgrammeNo) -> (Slip, Event) {
     let slip = TakeSlip::Gives(OfferNote { programme });
     (Slip::Take(resident, 0, slip), take(resident, programme))
 }
 
-// A wrong answer of a mailbox: the programme's look with this number gives this answer. With it stands the hear that
-// the worker then tries to enter.
+// A slip in which the programme's look with this number gives this answer, with the hear that the worker then tries
+// to enter.
 fn answer_of(
     programme: ProgrammeNo,
     call: u32,
@@ -175,7 +175,8 @@ fn answer_of(
     )
 }
 
-// Slips that give a message that was never put, or give a message before an older one; each with the receipt.
+// Slips that give a message that was never put, or a message before an older one, each with the receipt that is then
+// out of step.
 fn out_of_step() -> [(Slip, Event); 8] {
     [
         offer_of(X, STRANGE),
@@ -189,7 +190,8 @@ fn out_of_step() -> [(Slip, Event); 8] {
     ]
 }
 
-// Whether a run is out of step at this receipt. Its journal has all events that were entered, and no close.
+// Whether a run is out of step at this receipt, and its journal has exactly the events that the gate counted, and no
+// close.
 fn is_out_of_step(told: &Result<bool, RunFault>, gate: &Counting, receipt: &Event) -> bool {
     match told {
         Err(RunFault::OutOfStep { journal, event }) => {
@@ -247,10 +249,11 @@ fn takes_no_message_twice(rt: HostRuntime) {
     }
 }
 
-// How often a test is repeated that may miss what it looks for.
+// How often a test is repeated, since one try may miss what the test looks for.
 const TRIES: u32 = 5;
 
-// Whether no event is entered after a receipt that was out of step, though another worker has a receipt to enter.
+// Whether no event is entered after a receipt that was out of step, though another worker has a receipt to enter,
+// too.
 fn is_spoiled<R: Threads + Wait + Sync + Send + Copy>(rt: R, alloc: Global) -> bool {
     for _ in 0..TRIES {
         let gate = AfterAnother::new(Desk::Resident(X));

@@ -15,7 +15,7 @@ use test_support::markets::{made_chain, made_pairs};
 
 const CAPACITIES: [Capacity; 3] = [Capacity::Full, Capacity::Each(1), Capacity::Each(2)];
 
-// How often a test is repeated that may miss what it looks for.
+// How often a test is repeated, since one try may miss what the test looks for.
 const TRIES: u32 = 10;
 
 // Four instances: two small ones, a hundred pairs, and a chain of forty links.
@@ -39,7 +39,7 @@ fn receipts_of(journal: &[Event]) -> u64 {
     count
 }
 
-// Whether each worker entered as many events as the gate counted, and the journal has all of them.
+// Whether each worker entered as many events as the gate counted, and the journal has all of them and no others.
 fn is_told(told: &Told, counts: &[u64]) -> bool {
     let mut sum = 0_u64;
     for (entered, count) in told.entered.iter().zip(counts) {
@@ -51,7 +51,7 @@ fn is_told(told: &Told, counts: &[u64]) -> bool {
     told.journal.len() as u64 == sum && told.who.len() == told.journal.len()
 }
 
-// Whether a run ended as it should that was stopped from the call of `pass` with this number on.
+// Whether a run that was stopped from the call of `pass` with this number on ended as it should.
 fn is_stopped_from(told: &Told, gate: &StopsFrom, first: u64, workers: usize) -> bool {
     let counts = [0, 1, 2, 3, 4, 5, 6, 7].map(|worker| gate.count(worker));
     let receipts = receipts_of(&told.journal);
@@ -66,8 +66,7 @@ fn is_stopped_from(told: &Told, gate: &StopsFrom, first: u64, workers: usize) ->
         && is_told(told, &counts)
 }
 
-// How a run ended that was stopped from the call of `pass` with this number on. The result is none if the run did not
-// end as it should.
+// How a run ended that was stopped from the call of `pass` with this number on; none if it did not end as it should.
 fn stopped_from<R: Threads + Wait + Sync + Send + Copy>(
     rt: R,
     alloc: Global,
@@ -87,7 +86,7 @@ fn stopped_from<R: Threads + Wait + Sync + Send + Copy>(
     }
 }
 
-// Whether runs ended as they should that were stopped from each of these calls of `pass` on.
+// Whether runs that were stopped from each of these calls of `pass` on ended as they should.
 fn stop_well<R: Threads + Wait + Sync + Send + Copy>(
     rt: R,
     alloc: Global,
@@ -142,7 +141,7 @@ fn every_worker_heeds_a_stop(rt: HostRuntime) -> Result<(), Fail> {
     Ok(())
 }
 
-// Whether a run over pairs ends by the stop of this worker, or of any worker if none is given.
+// Whether a run over pairs ends because this worker stopped it, or any worker if none is given.
 fn is_stopped_by<R: Threads + Wait + Sync + Send + Copy>(
     rt: R,
     alloc: Global,
@@ -181,7 +180,7 @@ fn a_stop_wakes_who_rests(rt: HostRuntime) -> Result<(), Fail> {
     Ok(())
 }
 
-// The index in the journal of the event that a worker entered after `own` earlier events of its own.
+// The index in the journal of the event that a worker entered after `own` events of its own.
 fn place_of(told: &Told, worker: usize, own: u64) -> Option<usize> {
     let mut before = 0_u64;
     for (place, of) in told.who.iter().enumerate() {
@@ -195,8 +194,8 @@ fn place_of(told: &Told, worker: usize, own: u64) -> Option<usize> {
     None
 }
 
-// Whether a receipt that was kept waiting was entered after all events that were entered meanwhile, and no other worker
-// visited its desk.
+// Whether a receipt that was kept waiting was entered after all events that were entered meanwhile, none of which
+// belongs to its desk.
 fn is_entered_after(told: &Told, hold: &Hold, workers: usize) -> bool {
     let Some(place) = place_of(told, hold.worker, hold.own) else {
         return false;
@@ -213,7 +212,7 @@ fn is_entered_after(told: &Told, hold: &Hold, workers: usize) -> bool {
         })
 }
 
-// Whether a call of `pass` was kept waiting, and its receipt was entered only afterwards.
+// Whether a call of `pass` was kept waiting, and its receipt was entered only after the wait.
 fn is_late_enough(told: &Told, gate: &Stalls, workers: usize) -> bool {
     match gate.hold() {
         Some(hold) => is_entered_after(told, &hold, workers),
@@ -221,8 +220,8 @@ fn is_late_enough(told: &Told, gate: &Stalls, workers: usize) -> bool {
     }
 }
 
-// Whether a run ends as it should whose call of `pass` with this number is kept waiting, and whether a call was kept
-// waiting.
+// Whether a run ends as it should in which the call of `pass` with this number is kept waiting, and whether there was
+// such a call.
 fn is_held<R: Threads + Wait + Sync + Send + Copy>(
     rt: R,
     alloc: Global,
@@ -261,7 +260,7 @@ fn a_receipt_passes_before_it_is_entered(rt: HostRuntime) -> Result<(), Fail> {
     Ok(())
 }
 
-// Whether another worker entered events while the worker waited that entered the event with this number.
+// Whether other workers entered events while the worker that entered the event with this number was kept waiting.
 fn goes_on<R: Threads + Wait + Sync + Send + Copy>(
     rt: R,
     alloc: Global,
@@ -300,7 +299,8 @@ const ONE_FOR_TEN: Members = (
     &[&[0], &[0], &[0], &[0], &[0], &[0], &[0], &[0], &[0], &[0]],
 );
 
-// Whether another worker did the work that an offer caused, while the worker waited that entered the offer.
+// Whether another worker did the work that an offer gave, while the worker that had entered the offer was kept
+// waiting.
 fn goes_on_beside<R: Threads + Wait + Sync + Send + Copy>(
     rt: R,
     alloc: Global,
@@ -325,7 +325,7 @@ fn what_an_entry_woke_is_listed_before_its_worker_is_held(rt: HostRuntime) {
 const RIVALS: Members = (&[(1, &[0]), (1, &[0, 1])], &[&[0, 1], &[1]]);
 
 // Whether a worker that found nothing to do was woken for a listed desk, while another worker stayed at its own desk.
-// The listed desk is the rejected programme's, which hears of the rejection and offers again.
+// The listed desk is that of the rejected programme, which hears of the rejection and offers again.
 fn is_woken<R: Threads + Wait + Sync + Send + Copy>(rt: R, alloc: Global, cap: Capacity) -> bool {
     let gate = Rested::new(rt, Desk::Programme(ProgrammeNo(1)));
     let told = ran(rt, alloc, RIVALS, cap, 2, &gate);

@@ -1,4 +1,4 @@
-//! Mailboxes whose puts or takes can be kept waiting by a gate.
+//! Mailboxes in which a gate can keep puts or takes waiting.
 ghost use Rattle.std.specs.Prelude.{◌≡◌, ◌≢◌, [], IfOk, IfErr};
 
 use exchange_core::{AnswerNote, OfferNote};
@@ -11,11 +11,11 @@ use std::sync::Wait;
 use std::sync::atomic::{AtomicBool, AtomicU64, Ordering};
 use std::time::Duration;
 
-/// How often a worker that is kept waiting looks whether it may go on. The worker looks once in a millisecond.
+/// How often a worker that is kept waiting looks whether it may go on; it looks once in a millisecond.
 const LOOKS: u32 = 15_000;
 
-/// What a gate and the mailboxes of its run share. A latch of puts keeps one put waiting for a while, once the gate has
-/// armed the latch. A latch of takes keeps a take waiting until the gate opens the latch.
+/// What a gate and the mailboxes of its run share. A latch for puts, once the gate has armed it, keeps one put
+/// waiting for a while. A latch for takes keeps a take waiting until the gate opens it.
 #[derive(Drop)]
 pub(crate) struct Latch<R: Wait + Copy> {
     rt: R,
@@ -55,7 +55,7 @@ impl<R: Wait + Copy> Latch<R> {
         }
     }
 
-    /// Arms the latch, so that the next put is kept waiting. Returns whether the latch was armed for the first time.
+    /// Arms the latch, so that the next put is kept waiting. Returns whether it was armed for the first time.
     pub(crate) fn arms(&self) -> bool {
         !self.is_armed.swap(true, Ordering::SeqCst)
     }
@@ -75,7 +75,8 @@ impl<R: Wait + Copy> Latch<R> {
         self.is_open.store(true, Ordering::SeqCst);
     }
 
-    // Keeps a put waiting: the first put after the latch was armed. The worker of this put has the ledger's lock.
+    // Keeps a put waiting, if it is the first one after the latch was armed. The worker of this put has the ledger's
+    // lock meanwhile.
     fn holds_put(&self) {
         let is_armed = self.is_of_puts && self.is_armed.load(Ordering::SeqCst);
         if is_armed && !self.has_begun.swap(true, Ordering::SeqCst) {
@@ -118,8 +119,8 @@ impl<'a, M: Copy, R: Wait + Copy> PutEnd<M> for LatchedPut<'a, M, R> {
     }
 }
 
-/// A receiving end whose takes a latch may keep waiting. If its mailbox has lost the sending end, a take says so once
-/// the latch is open.
+/// A receiving end whose takes a latch may keep waiting. If its mailbox has lost the sending end, a take says so
+/// after the latch was opened.
 #[derive(Drop)]
 pub(crate) struct LatchedTake<'a, M: Copy, R: Wait + Copy> {
     end: RuledTake<M, R>,

@@ -1,4 +1,4 @@
-//! Misses and faults of a run, made by mailboxes that answer wrongly: which desk is visited again, which misses are
+//! Misses and faults in runs over mailboxes that give wrong answers: which desk is visited again, which misses are
 //! forgotten, and which fault is reported. One test looks at what a search finds when no desk is listed.
 ghost use Rattle.std.specs.Prelude.{true, false};
 
@@ -17,7 +17,7 @@ use std::time::Duration;
 use test_support::events::{A, B, X, Y};
 use test_support::instances::{Members, TWO_PLACES, made};
 
-// The journal of a run by one worker, in which one mailbox answers what a good mailbox never answers.
+// The journal of a run by one worker in which one mailbox gives an answer that a good mailbox never gives.
 fn journal_over<R: Threads + Wait + Sync + Send + Copy>(
     rt: R,
     alloc: Global,
@@ -58,7 +58,8 @@ const TEN_ANSWERS: Members = (
     &[&[0], &[0], &[0], &[0], &[0], &[0], &[0], &[0], &[0], &[0]],
 );
 
-// There are seventy misses, but at most seven between two entries. Only misses in a row count against the patience.
+// There are seventy misses, but at most seven between two entries. Only misses in a row count against a worker's
+// patience.
 #[test]
 fn misses_before_an_entry_are_forgotten(rt: HostRuntime) {
     let often = Slip::Answer(A, 0, PutSlip::OftenFull);
@@ -66,8 +67,8 @@ fn misses_before_an_entry_are_forgotten(rt: HostRuntime) {
     assert!(rt; journal.is_ok_and(|journal| journal.len() == 41));
 }
 
-// Keeps the call of `pass` for one desk waiting for a long time after it has begun, and keeps the calls for another
-// desk waiting until then.
+// Keeps the call of `pass` for one desk waiting for a long time, and keeps the calls for another desk waiting until
+// this wait has begun.
 #[derive(Drop)]
 struct Later<R: Wait + Copy> {
     rt: R,
@@ -107,7 +108,8 @@ impl<R: Wait + Copy + Sync> Gate for Later<R> {
     fn entered(&self, _worker: usize) {}
 }
 
-// What a run reports in which first a mailbox loses an end, and then another worker has a receipt that may not follow.
+// The fault of a run in which a mailbox first loses an end, and then another worker has a receipt that may not
+// follow.
 fn told_first<R: Threads + Wait + Sync + Send + Copy>(rt: R, alloc: Global) -> Option<RunFault> {
     let Ok(inst) = made(alloc, TWO_PLACES) else {
         return None;
@@ -135,8 +137,9 @@ fn the_first_trouble_is_told(rt: HostRuntime) {
     assert!(rt; told.is_some_and(|told| told == RunFault::MailGone(Desk::Resident(X))));
 }
 
-// A gate that goes on slowly after the first entry, though it says that it never keeps a worker waiting. The desk that
-// the entry woke is not listed meanwhile. The gate goes on after three calls of `pass` by others, or after two seconds.
+// A gate that is slow after the first entry, though it says that it never keeps a worker waiting. So the desk that
+// the entry woke is not listed meanwhile. The gate goes on after three calls of `pass` by others, or after two
+// seconds.
 #[derive(Drop)]
 struct Slow<R: Wait + Copy> {
     rt: R,

@@ -1,4 +1,4 @@
-//! In which order workers heed a stop, note a fault, list the desks that they woke, and end the run after the close.
+//! In which order workers obey a stop, note a fault, list the desks that they woke, and end the run after the close.
 //! The tests use gates, and mailboxes that keep a worker waiting while it has the ledger's lock.
 ghost use Rattle.std.specs.Prelude.{true, false};
 
@@ -16,7 +16,7 @@ use std::time::Duration;
 use test_support::events::{X, Y};
 use test_support::instances::{Members, TWO_BY_TWO, made};
 
-// At which receipt a gate stops a run: at the first receipt of one desk, of all residents or of all programmes.
+// At which receipt a gate stops a run: at the first one of one desk, of all residents or of all programmes.
 #[derive(Clone, Copy, Debug, PartialEq, Eq)]
 enum At {
     Desk(Desk),
@@ -34,8 +34,8 @@ impl At {
     }
 }
 
-// A gate that stops a run at one receipt, once another worker's put or take is kept waiting. The gate counts the events
-// that are entered from then on, and lets the take go on once an event was entered.
+// A gate that stops a run at one receipt, once another worker's put or take is kept waiting. It counts the events
+// that are entered after that, and lets a waiting take go on once an event was entered.
 #[derive(Drop)]
 struct StopsBeside<R: Wait + Copy> {
     latch: Latch<R>,
@@ -77,8 +77,8 @@ impl<R: Wait + Copy + Sync> Gate for StopsBeside<R> {
     }
 }
 
-// How a run by two workers ends, over mailboxes under a latch. The latch's lifetime has a name here, since the borrow checker
-// asks for one at this call.
+// How a run by two workers ends, over mailboxes under a latch. The latch's lifetime has a name here because the
+// borrow checker asks for one at this call.
 fn ended<'a, R: Threads + Wait + Sync + Send + Copy>(
     rt: R,
     alloc: Global,
@@ -90,7 +90,7 @@ fn ended<'a, R: Threads + Wait + Sync + Send + Copy>(
     Ok(done.ending)
 }
 
-// What a run reports that was stopped at one resident, after another resident's mailbox lost an end.
+// The fault of a run that was stopped at one resident's receipt, after another resident's mailbox lost an end.
 fn told_after_a_stop<R: Threads + Wait + Sync + Send + Copy>(
     rt: R,
     alloc: Global,
@@ -116,7 +116,7 @@ fn a_trouble_after_a_stop_is_told(rt: HostRuntime) {
 }
 
 // Ten times two programmes and two residents. Both programmes offer to the first resident, who declines the second
-// programme. The second programme then offers to the second resident.
+// one. This programme then offers to the second resident.
 fn made_rivals(alloc: Global) -> Result<Instance, ModelFault> {
     let mut builder = InstanceBuilder::new(alloc);
     for _ in 0..20 {
@@ -137,8 +137,8 @@ fn made_rivals(alloc: Global) -> Result<Instance, ModelFault> {
     builder.finish().map_err(|refused| refused.fault)
 }
 
-// Whether no worker began an event after a stop, while another worker had the ledger's lock when the gate said stop.
-// Only the event that the other worker had begun is entered, and the receipt at which the gate stopped.
+// Whether no worker began an event after a stop that the gate gave while another worker had the ledger's lock.
+// Entered after it are only the event that the other worker had begun, and the receipt at which the gate stopped.
 fn is_heeded_at_once<R: Threads + Wait + Sync + Send + Copy>(
     rt: R,
     alloc: Global,
@@ -157,7 +157,7 @@ fn is_heeded_at_once<R: Threads + Wait + Sync + Send + Copy>(
         && gate.entered.load(Ordering::SeqCst) == 2
 }
 
-// Other work of the machine may keep a worker from heeding the stop for long, but not in two of three runs.
+// Other work of the machine may delay the worker that should obey the stop, but not in two of three runs.
 #[test]
 fn a_stop_is_heeded_before_its_receipt_is_entered(rt: HostRuntime) -> Result<(), Fail> {
     let inst = made_rivals(rt.alloc())?;
@@ -172,8 +172,8 @@ fn a_stop_is_heeded_before_its_receipt_is_entered(rt: HostRuntime) -> Result<(),
     Ok(())
 }
 
-// Waits until the number is at least this large, or until this number of milliseconds has passed. Returns whether the
-// number is large enough.
+// Waits until the number is at least `least`, or until this many milliseconds have passed. Returns whether the number
+// is large enough.
 fn wait_for<R: Wait + Copy>(
     rt: R,
     clock: &AtomicU64,
@@ -190,12 +190,12 @@ fn wait_for<R: Wait + Copy>(
     number.load(Ordering::SeqCst) >= least
 }
 
-// How long a gate waits for an event that has to come, in milliseconds.
+// How long a gate waits for an event that must come, in milliseconds.
 const LONG: u64 = 15_000;
 
-// A gate for two pairs and two workers, where each worker has one of the last two hears. The first worker to enter its
-// hear goes on once the second worker has entered the other hear, and closes the exchange. The second worker goes on
-// once the close is entered, but before the other workers learn that the run ends.
+// A gate for two pairs and two workers, each of which has one of the last two hears. The worker that enters its hear
+// first goes on once the other one has entered its hear, and closes the exchange. The other worker goes on once the
+// close is entered, but before the end of the run is made known.
 #[derive(Drop)]
 struct ClosesBeside<R: Wait + Copy> {
     rt: R,
@@ -255,12 +255,12 @@ fn a_close_is_told_once(rt: HostRuntime) -> Result<(), Fail> {
     Ok(())
 }
 
-// A gate for two workers and two programmes. The first programme has ten residents, the second has one. The gate keeps
-// workers waiting at entries, though it says that it doesn't. Each worker waits after its first offer for the other's
-// first offer, so each has a programme, and neither rests. The second programme's worker then gets the offer of that
-// programme's resident, and goes on once the other worker has made three offers. The other worker waits until one of
-// these three is answered. Then it makes one further offer, and has a hear. The gate's call for this hear lasts until
-// all four offers are answered.
+// A gate for two workers and two programmes, of which the first has ten residents and the second has one. The gate
+// keeps workers waiting at entries, though it says that it doesn't. Each worker waits after its first offer for the
+// other's first offer, so that each has a programme and neither rests. The worker of the second programme then serves
+// this programme's resident, and goes on once the other worker has made three offers. The other worker waits until
+// one of the three is answered. Then it makes one more offer, and has a hear. The gate's call for this hear lasts
+// until all four offers are answered.
 #[derive(Drop)]
 struct HoldsHear<R: Wait + Copy> {
     rt: R,
@@ -272,7 +272,7 @@ struct HoldsHear<R: Wait + Copy> {
 }
 
 impl<R: Wait + Copy> HoldsHear<R> {
-    // How many events this worker entered, and how many the other worker entered.
+    // How many events this worker entered, and how many the other one entered.
     fn entries(&self, worker: usize) -> (&AtomicU64, &AtomicU64) {
         let (first, second) = &self.entered;
         if worker == 0 {

@@ -1,5 +1,5 @@
-//! Runs in which some workers are kept waiting until the others have done all that needs none of their desks. What that is
-//! follows from the market.
+//! Runs in which some workers are kept waiting until the others have done all that can be done without the waiting
+//! workers' desks. How much this is follows from the market.
 ghost use Rattle.std.specs.Prelude.{true, false};
 
 use crate::runs::{ran, ran_on};
@@ -21,14 +21,14 @@ const NONE: (u64, Until) = (0, Until::Entered(0));
 
 const FIRST: Desk = Desk::Resident(X);
 
-// Four programmes with one resident.
+// Four programmes that all rank the same resident.
 const ALL_FOR_ONE: Members = (
     &[(1, &[0]), (1, &[0]), (1, &[0]), (1, &[0])],
     &[&[0, 1, 2, 3]],
 );
 
-// The worker at the resident's desk waits at its first take until all four offers are entered and the others sleep. The
-// worker then answers this offer, and waits at its second take until the answer is heard.
+// The worker at the resident's desk waits at its first take until all four offers are entered and the other workers
+// sleep. It then answers this offer, and waits at its second take until the answer is heard.
 const AT_THE_SECOND_TAKE: Holds = Holds {
     begun: 0,
     offers: 0,
@@ -37,14 +37,14 @@ const AT_THE_SECOND_TAKE: Holds = Holds {
     next: (1, Until::Entered(7)),
 };
 
-// A pair, and four programmes with a second resident.
+// A pair, and four programmes that all rank a second resident.
 const PROGRAMMES_WAIT: Members = (
     &[(1, &[0]), (1, &[1]), (1, &[1]), (1, &[1]), (1, &[1])],
     &[&[0], &[1, 2, 3, 4]],
 );
 
-// The first take of the second resident waits until the other three programmes wait for room in its mailbox. The take of
-// the first resident waits until the pair's offer and all events of the others are entered, at least sixteen.
+// The first take of the second resident waits until the three other programmes wait for room in its mailbox. The take
+// of the first resident waits until its pair's offer and all events of the others are entered, at least sixteen.
 const BESIDE_PROGRAMMES: Holds = Holds {
     begun: 0,
     offers: 0,
@@ -59,8 +59,8 @@ const RESIDENTS_WAIT: Members = (
     &[&[0], &[1], &[1], &[1], &[1]],
 );
 
-// The take of the first resident waits until the pair's offer and all sixteen events of the others are entered. Three of
-// these residents wait for room in their programme's mailbox.
+// The take of the first resident waits until its pair's offer and all sixteen events of the others are entered. Three
+// of the other residents wait for room in their programme's mailbox.
 const BESIDE_RESIDENTS: Holds = Holds {
     begun: 0,
     offers: 5,
@@ -75,7 +75,7 @@ const AT_TAKES: [(Members, Capacity, Holds, &[usize]); 3] = [
     (RESIDENTS_WAIT, Capacity::Each(1), BESIDE_RESIDENTS, &[2, 3]),
 ];
 
-// Whether a run closed, and all its events that need no desk of a waiting worker were entered meanwhile.
+// Whether a run closed, and all events that needed no waiting worker's desk were entered during the waits.
 fn leaves_no_work<R: Threads + Wait + Sync + Send + Copy>(
     rt: R,
     alloc: Global,
@@ -100,7 +100,7 @@ fn no_work_is_left_while_workers_are_held_in_passes(rt: HostRuntime) {
     }
 }
 
-// The next entry that a worker makes in a market of pairs, through mailboxes that never fill.
+// What a worker enters next in a market of pairs, through mailboxes that never fill.
 const A_PUT: u32 = 0;
 
 const A_TAKE: u32 = 1;
@@ -115,8 +115,8 @@ const PAIRS: u32 = 4;
 // How often a gate looks whether an expected event is entered. The gate looks once in a millisecond.
 const LOOKS: u32 = 10_000;
 
-// A gate for pairs of a programme with one place and a resident. After the event with this number, counted from 1, the
-// gate keeps the worker waiting until every event is entered that doesn't need the worker's desk.
+// A gate for pairs of a programme with one place and a resident. After the event with this number, counted from 1, it
+// keeps the worker waiting until every event is entered that doesn't need this worker's desk.
 #[derive(Drop)]
 struct HoldsTold<R: Wait + Copy> {
     rt: R,
@@ -143,7 +143,7 @@ impl<R: Wait + Copy> HoldsTold<R> {
         }
     }
 
-    // How many events of its pair need a worker after whose entry the gate waits.
+    // After the worker's last entry, how many events of this pair still need the worker.
     fn needed(&self, worker: usize) -> u32 {
         let Some(next) = self.next.get(worker) else {
             return 0;
@@ -210,19 +210,19 @@ fn no_work_is_left_while_a_worker_is_told_of_an_entry(rt: HostRuntime) -> Result
     Ok(())
 }
 
-// A programme with three places that loses its first three residents to a second programme. If the first programme
-// hears of all three in one visit, it then makes three offers in a row.
+// A programme with three places that loses its first three residents to a second programme. If it hears of all three
+// in one visit, it then makes three offers in a row.
 const THREE_LOST: Members = (
     &[(3, &[0, 1, 2, 3, 4, 5]), (3, &[0, 1, 2])],
     &[&[1, 0], &[1, 0], &[1, 0], &[0], &[0], &[0]],
 );
 
-// How often a test is repeated, since other work of the machine may keep a worker from sleeping in time.
+// How often a test is repeated, since other work of the machine may keep a worker awake too long.
 const TRIES: u32 = 4;
 
-// Each programme's worker makes three offers before any take passes. The first programme's first hear waits until six takes,
-// six answers or more and the other programme's three hears are entered, and the others sleep. Then the first programme
-// makes three more offers, and all workers but one wait at takes until the third take has begun.
+// Each programme's worker makes three offers before any take passes. The first programme's first hear waits until six
+// takes, at least six answers and the other programme's three hears are entered, and the other workers sleep. Then
+// the first programme makes three more offers, and all workers but one wait at takes until the third take has begun.
 #[test]
 fn each_that_sleeps_is_woken_for_what_one_visit_gave(rt: HostRuntime) {
     for (workers, most) in [(2, 1), (3, 2)] {
@@ -261,7 +261,7 @@ fn made_crowd(alloc: Global) -> Result<Instance, ModelFault> {
 }
 
 // No take passes before all seventy offers are made, so one visit wakes seventy desks. The take of the first resident
-// then waits until the events of all other residents are entered.
+// then waits until all events of the other residents are entered.
 #[test]
 fn a_visit_that_wakes_many_lists_them_all(rt: HostRuntime) -> Result<(), Fail> {
     let inst = made_crowd(rt.alloc())?;

@@ -11,7 +11,7 @@ use test_support::events::{A, B, X};
 use test_support::instances::{Members, TWO_BY_TWO, TWO_PLACES, has_places, made};
 use test_support::markets::made_in_one_order;
 
-// What is noted of a run, without its ends and agents.
+// What is noted of a run: all of its result but the ends and the agents.
 #[derive(Drop)]
 pub(crate) struct Told {
     pub(crate) ending: Ending,
@@ -57,7 +57,7 @@ pub(crate) fn ran<G: Gate + Sync, R: Threads + Wait + Sync + Send + Copy>(
     }
 }
 
-// Whether a run closed with each resident at the programme of this number, or at none.
+// Whether a run closed with each resident at the programme with this number, or at none.
 fn ends_with<R: Threads + Wait + Sync + Send + Copy>(
     rt: R,
     alloc: Global,
@@ -72,9 +72,9 @@ fn ends_with<R: Threads + Wait + Sync + Send + Copy>(
     }
 }
 
-// Markets, with the programme of each resident after the close. One market has no place, one has a member whom nobody
-// ranks, and one leaves a place and a resident over. In three of these markets everybody ranks everybody, and an
-// implementation of plain deferred acceptance gave the placements.
+// Markets, each with the programme of each resident after the close. One market has no place, one has a member whom
+// nobody ranks, and one leaves a place and a resident over. In three others everybody ranks everybody, and their
+// placements are from an implementation of plain deferred acceptance.
 const MARKETS: [(Members, &[Option<u32>]); 8] = [
     (TWO_BY_TWO, &[Some(0), Some(1)]),
     (TWO_PLACES, &[Some(1), Some(0), Some(0)]),
@@ -182,8 +182,8 @@ fn refuses_a_bad_number_of_workers_or_capacity(rt: HostRuntime) {
     }
 }
 
-// Whether a gate kept a worker of a closed run waiting, each worker entered as many events as the gate counted, and two
-// workers entered some.
+// Whether a gate kept a worker waiting, the run closed, each worker entered as many events as the gate counted, and
+// at least two workers entered some.
 fn is_seen(told: &Told, held: &Held) -> bool {
     let mut busy = 0_usize;
     for (worker, entered) in told.entered.iter().enumerate() {
@@ -201,7 +201,7 @@ fn is_seen(told: &Told, held: &Held) -> bool {
         && told.who.len() == told.journal.len()
 }
 
-// How many events a run has, if its gate saw what is expected.
+// How many events a run has; none unless its gate saw what it should.
 fn seen<G: Gate + Sync, R: Threads + Wait + Sync + Send + Copy>(
     rt: R,
     alloc: Global,
@@ -262,7 +262,7 @@ fn two_at_once_on_their_way(rt: HostRuntime) -> Result<(), Fail> {
     Ok(())
 }
 
-// Whether a run was stopped after a take, and its workers entered exactly the events of its journal.
+// Whether a run was stopped after one take, and its workers entered exactly the events of its journal.
 fn is_stopped(told: &Told) -> bool {
     let mut takes = 0_usize;
     for event in &told.journal {

@@ -1,5 +1,5 @@
-//! Mailboxes that slip, which means that an end answers wrongly: its contract allows the answer, but a good mailbox
-//! never gives it.
+//! Mailboxes that slip, which means that an end gives a wrong answer: its contract allows the answer, but a good
+//! mailbox never gives it.
 ghost use Rattle.std.specs.Prelude.{◌≡◌, ◌≢◌, ◌≤◌, [], vec_capacity, IfOk, IfErr};
 
 use exchange_core::{AnswerNote, OfferNote};
@@ -27,7 +27,8 @@ pub(crate) enum PutSlip {
     Gone,
 }
 
-/// What a receiving end does once, or from then on, after it gave a number of messages.
+/// What a receiving end does after it gave a number of messages: at the next call only, or at each call from then
+/// on.
 #[derive(Clone, Copy, Debug, PartialEq, Eq)]
 pub(crate) enum TakeSlip<M> {
     /// The end gives no message once, though a message waits.
@@ -122,7 +123,8 @@ impl<M: Copy, R: Wait + Copy> TakeEnd<M> for SlippingTake<M, R> {
 }
 
 impl<M: Copy, R: Wait + Copy> SlippingTake<M, R> {
-    // The wrong answer to a call that takes a message. Most kinds of wrong answers come once, and two kinds last.
+    // The wrong answer to a call that takes a message. Most kinds of wrong answer come once, and two kinds come
+    // again and again.
     fn slipped(&mut self, slip: TakeSlip<M>) -> TakeReply<M>
         ensures { self.new ≡ self.old }
     {
@@ -141,7 +143,7 @@ impl<M: Copy, R: Wait + Copy> SlippingTake<M, R> {
     }
 }
 
-/// Whose mailbox answers wrongly, at which end, at which call, and how.
+/// Whose mailbox gives a wrong answer, at which end, at which call, and which answer.
 #[derive(Clone, Copy, Debug, PartialEq, Eq)]
 pub(crate) enum Slip {
     /// The wrong answer comes when an offer is put for this resident.
@@ -154,14 +156,14 @@ pub(crate) enum Slip {
     Hear(ProgrammeNo, u32, TakeSlip<AnswerNote>),
 }
 
-/// Mailboxes of which one or two answer wrongly.
+/// Mailboxes of which one or two give wrong answers.
 #[derive(Clone, Copy, Debug)]
 pub(crate) struct Slipping<R: Wait + Copy> {
     pub(crate) rt: R,
     pub(crate) slips: [Slip; 2],
 }
 
-// The two ends of a mailbox. Their wrong answers are those of the two arguments.
+// The two ends of a mailbox, which give the wrong answers of these two arguments.
 fn ends_of<M: Copy + Eq, R: Wait + Copy>(
     rt: R,
     alloc: Global,

@@ -13,7 +13,7 @@ use std::thread::Threads;
 use test_gates::gates::StopsFrom;
 use test_support::markets::made_chain;
 
-// The offers that were sent to a resident by the journal, or those of them that the resident took.
+// The offers that the journal has for a resident; only those that the resident took, if `taken` is set.
 fn offers_of(
     alloc: Global,
     journal: &[Event],
@@ -38,7 +38,7 @@ fn offers_of(
     Ok(offers)
 }
 
-// The answers that were sent to a programme by the journal, or those of them that the programme heard.
+// The answers that the journal has for a programme; only those that the programme heard, if `heard` is set.
 fn answers_of(
     alloc: Global,
     journal: &[Event],
@@ -65,7 +65,8 @@ fn answers_of(
     Ok(answers)
 }
 
-// Appends the messages that still wait in a mailbox to the messages that were taken out of it, up to this number.
+// Takes the messages that still wait in a mailbox, and appends them to those that were taken before, up to this
+// number.
 fn take_the_rest<M: Copy, T: TakeEnd<M> + Drop>(
     messages: &mut Vec<M>,
     mut end: T,
@@ -183,7 +184,7 @@ fn is_its_journal<M: Mailboxes>(
     )
 }
 
-// Whether a run by two workers ends well that is stopped from the call of `pass` with this number on.
+// Whether a run by two workers that is stopped from the call of `pass` with this number on ends well.
 fn stops_well<R: Threads + Wait + Sync + Send + Copy>(
     rt: R,
     alloc: Global,

@@ -89,7 +89,7 @@ const PAIRS: Members = (
     ],
 );
 
-// Whether all workers but one were kept waiting and released in this order, and the run closed after four events for
+// Whether all workers but one were kept waiting and went on in this order, and the run closed after four events for
 // each pair.
 fn goes_on<R: Threads + Wait + Sync + Send + Copy>(
     rt: R,
@@ -119,7 +119,7 @@ fn one_goes_on_while_all_others_are_held(rt: HostRuntime) {
     }
 }
 
-// The run's last receipt is kept waiting until the other three events are entered and the other worker sleeps, so that
+// The run's last receipt is kept waiting until the other three events are entered and the other worker sleeps. So
 // only the end of the run wakes that worker.
 #[test]
 fn a_worker_that_sleeps_ends_with_the_run(rt: HostRuntime) {

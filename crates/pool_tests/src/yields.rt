@@ -1,5 +1,5 @@
-//! Runs over random small markets, through a gate that sometimes yields or parks a worker. Each run has to give the
-//! sheet that its journal leads to.
+//! Runs over random small markets, with a gate that sometimes lets other workers go first or parks a worker. Each run
+//! has to give the sheet that its journal leads to.
 ghost use Rattle.std.specs.Prelude.{true, false};
 
 use crate::runs::ran_on;
@@ -23,14 +23,14 @@ fn after(number: u64) -> u64 {
     mixed ^ (mixed >> 31)
 }
 
-// Draws a number from 0 to 6.
+// Draws a number from 0 to 6 by chance.
 fn drawn(chance: &mut u64) -> u32 {
     *chance = after(*chance);
     ((*chance >> 8) % 7) as u32
 }
 
-// A gate that parks its worker for a while at one of seven calls, and mostly lets other workers go first at the other
-// calls.
+// A gate that on average parks its worker for a while at one of seven calls, and at most other calls lets other
+// workers go first.
 #[derive(Drop)]
 struct Yields<R: Wait + Copy> {
     rt: R,
@@ -39,7 +39,7 @@ struct Yields<R: Wait + Copy> {
 }
 
 impl<R: Wait + Copy> Yields<R> {
-    // What the worker does at this call is drawn from the number of calls before.
+    // What the worker does at this call is drawn by the number of calls before it.
     fn turn(&self) {
         let mut chance = self.passed.fetch_add(1, Ordering::SeqCst);
         match drawn(&mut chance) {
@@ -103,8 +103,8 @@ fn made_by_chance(alloc: Global, chance: &mut u64) -> Result<Instance, ModelFaul
     builder.finish().map_err(|refused| refused.fault)
 }
 
-// How many workers entered events in a run that closed and gave the sheet that its journal leads to. The result is none
-// for any other run.
+// How many workers entered events in a run that closed and gave the sheet that its journal leads to; none for any
+// other run.
 fn busy_in<R: Threads + Wait + Sync + Send + Copy>(
     rt: R,
     alloc: Global,

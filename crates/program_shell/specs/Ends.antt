@@ -14,7 +14,7 @@ abbrev pub IsTextFaultOf : {A E : Type 0} → Result (Vec (String A)) E → Usag
 IsTextFaultOf (Ok texts) fault = ⊥
 IsTextFaultOf (Err error) fault = (fault ≡ NoText) ⊎ (fault ≡ Line Memory)
 
--- why the words give no order: the parser refuses them, or they are not texts
+-- why the words give no order: they are texts that the parser refuses, or one is no text, or memory ran out
 abbrev pub IsUsageFaultOf : {A E : Type 0} → (List Text → LineFault → Type 0) → Result (Vec (String A)) E → UsageFault → Type 0
 IsUsageFaultOf Refuses (Ok texts) NoText = ⊥
 IsUsageFaultOf Refuses (Ok texts) (Line fault) = Refuses (map string_bytes texts.items) fault
@@ -24,8 +24,8 @@ IsUsageFaultOf Refuses (Err error) fault = (fault ≡ NoText) ⊎ (fault ≡ Lin
 abbrev pub IsOrderOf : {A E O : Type 0} → (List Text → O → Type 0) → Result (Vec (String A)) E → O → Type 0
 IsOrderOf Orders words order = IsOkAnd words (λ texts. Orders (map string_bytes texts.items) order)
 
--- the status after words without an order: the status of their fault, or 1 if the help or the version could not be
--- written
+-- the status after words without an order: that of their fault, or 1 if the help or the version was asked for and
+-- could not be written
 abbrev pub IsRefusedStatus : UsageFault → ℕ → Type 0
 IsRefusedStatus fault status = (status ≡ usage_status_of fault) ⊎ ((usage_status_of fault ≡ 0) × (status ≡ 1))
 
@@ -42,7 +42,7 @@ pub record EndsUnread (old new : Option (List ℕ)) (status : ℕ) : Type 0 wher
   pub nothing : new ≡ old
   pub tells : status ≡ 1
 
--- an order was answered: what was appended is the answer's, and the status is the answer's
+-- an order was answered: what was written fits the answer, and the status is the answer's
 pub record EndsAnswered {Answer : Type 0} (Appends : Answer → Type 0) (status_of : Answer → ℕ) (status : ℕ) : Type 0 where
   pub answer : Answer
   pub appends : Appends answer

@@ -7,12 +7,13 @@ use Rattle.clap.specs.declared.error.kind.ErrorKind.TheVariants.{OutOfMemory}
 use Rattle.program_shell.specs.declared.fault.LineFault.{LineFault}
 use Rattle.program_shell.specs.declared.fault.LineFault.TheVariants.{Memory, Line}
 
--- out of memory has its own fault, and every other error is told as it is
+-- the fault that an error of this kind is told as: out of memory has its own, every other error is
+-- told as it is
 abbrev pub told_by_kind : ErrorKind → Error → LineFault
 told_by_kind OutOfMemory error = Memory
 told_by_kind kind error = Line error
 
--- memory ran out, or the fault is an error of a kind with this property, and not one of memory
+-- memory ran out, or the fault is another error of the parser, whose kind has this property
 abbrev pub IsErrorOf : (ErrorKind → Type 0) → LineFault → Type 0
 IsErrorOf P Memory = Unit {0}
 IsErrorOf P (Line error) = P (kind_of error) × (kind_of error ≢ OutOfMemory)

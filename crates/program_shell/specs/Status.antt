@@ -12,7 +12,7 @@ use Rattle.program_shell.specs.declared.fault.LineFault.TheVariants as line
 use Rattle.program_shell.specs.declared.fault.UsageFault.{UsageFault}
 use Rattle.program_shell.specs.declared.fault.UsageFault.TheVariants as usage
 
--- 1 if memory, the reader or the writer failed; 3 if the docket is at fault
+-- 1 if memory, the reader or the writer failed; 3 if the docket itself is at fault
 abbrev pub docket_status_of : DocketFault → ℕ
 docket_status_of (docket.Read place) = 1
 docket_status_of docket.Memory = 1
@@ -30,7 +30,8 @@ docket_status_of (docket.BadSheet place) = 3
 docket_status_of (docket.BadVersion place) = 3
 docket_status_of (docket.BadWithdrawal place) = 3
 
--- the same; 3 too if the lists have too many names, or if a record belongs to another part
+-- the status of a fault of records: that of a docket's fault, and 3 if the lists have too many
+-- names or a record belongs to another part
 abbrev pub records_status_of : RecordsFault → ℕ
 records_status_of (records.Docket fault) = docket_status_of fault
 records_status_of (records.TooManyListed place) = 3
@@ -42,14 +43,15 @@ words_status_of DisplayHelp = 0
 words_status_of DisplayVersion = 0
 words_status_of _ = 2
 
--- the status after a command line without an order
+-- the status after texts that give no order: 1 if memory ran out, that of the parser's error, or 2
 abbrev pub line_status_of : LineFault → ℕ
 line_status_of line.Memory = 1
 line_status_of (line.Line error) = words_status_of (kind_of error)
 line_status_of line.BadCapacity = 2
 line_status_of line.SecondInput = 2
 
--- the status after words without an order; 2 if one of them is not a text
+-- the status after words that give no order: 2 if one of them is no text, else that of the texts'
+-- fault
 abbrev pub usage_status_of : UsageFault → ℕ
 usage_status_of usage.NoText = 2
 usage_status_of (usage.Line fault) = line_status_of fault

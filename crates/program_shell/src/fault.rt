@@ -14,7 +14,7 @@ pub enum LineFault {
     /// The memory could not grow.
     #[error("out of memory")]
     Memory,
-    /// The words are no command, or they ask for help or the version.
+    /// The parser refuses the words, or they ask for help or the version.
     #[error(transparent)]
     Line(clap::Error),
     /// The capacity is neither `full` nor a number from 1 to 1,024.
@@ -39,7 +39,7 @@ pub enum UsageFault {
     /// One of the words is not valid text.
     #[error("a word of the command line is no text")]
     NoText,
-    /// The words are no command line, or they ask for help or the version.
+    /// The words are text, but give no order, or they ask for help or the version.
     #[error(transparent)]
     Line(LineFault),
 }

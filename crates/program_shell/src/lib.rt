@@ -1,13 +1,16 @@
-//! What a program does with the command line's words before it reads them, and what it does if they ask for nothing.
+//! How a program turns the command line's words into texts before it parses them, and what it does if the words give
+//! no order.
 //!
 //! Contracts say which fault is reported, and with which exit status. Tests compare the texts.
 #![tactic(auto)]
 
+mod commands;
 mod fault;
 mod load;
 mod status;
 mod words;
 
+pub use commands::{described, with_command, with_commands};
 pub use fault::{LineFault, UsageFault, line_fault};
 pub use load::{
     Unread, is_input, lent, load_file, load_if, load_input, load_path, load_path_if, refuse_unread,

@@ -38,7 +38,7 @@ fn not_read<'a>(path: &'a str, error: io::Error) -> Unread<'a> {
     }
 }
 
-/// The bytes of standard input, which a fault tells by this name.
+/// The bytes of standard input. If they can't be read, the fault has this name for it.
 pub fn load_input<'a, R: Read>(
     alloc: Global,
     name: &'a str,
@@ -61,7 +61,8 @@ pub fn load_path<'a, H: Files + AllocGlobal>(rt: &H, path: &'a str) -> Result<Ve
     }
 }
 
-/// The bytes of the file with this path, which is never standard input. None if there is no path.
+/// The bytes of the file with this path, or none if there is no path. The path `-` names a file, too, and
+/// not standard input.
 pub fn load_path_if<'a, H: Files + AllocGlobal>(
     rt: &H,
     path: Option<&'a str>,
@@ -96,7 +97,7 @@ pub fn load_file<'a, R: Read, H: Files + AllocGlobal>(
     }
 }
 
-/// The bytes of the file with this path, or of standard input if the path is `-`. None if there is no path.
+/// The bytes of the file with this path, or of standard input if the path is `-`; none if there is no path.
 pub fn load_if<'a, R: Read, H: Files + AllocGlobal>(
     rt: &H,
     alloc: Global,
@@ -117,7 +118,7 @@ pub fn load_if<'a, R: Read, H: Files + AllocGlobal>(
     }
 }
 
-/// A view of a file's bytes, if there is such a file.
+/// A file's bytes as a slice, if there is such a file.
 pub fn lent(bytes: &Option<Vec<u8>>) -> Option<&[u8]>
     ensures { option_copied result ≡ option_map (λ bytes. bytes.items) bytes.now }
 {

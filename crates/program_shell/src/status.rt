@@ -16,7 +16,8 @@ pub fn docket_status(fault: &DocketFault) -> u8
     }
 }
 
-/// The exit status after files, or a docket within chosen limits, at fault.
+/// The exit status after a fault of records: that of a docket's fault, and 3 for too many listed names or a record in
+/// the wrong file.
 pub fn records_status(fault: &RecordsFault) -> u8
     ensures { result ≡ records_status_of fault.now }
 {
@@ -26,7 +27,7 @@ pub fn records_status(fault: &RecordsFault) -> u8
     }
 }
 
-/// The exit status after a command line that does not say what to do. The status is 0 if the words ask for help or the
+/// The exit status after a command line that gives no order. The status is 0 if the words ask for help or the
 /// version.
 pub fn line_status(fault: &LineFault) -> u8
     ensures { result ≡ line_status_of fault.now }
@@ -41,7 +42,7 @@ pub fn line_status(fault: &LineFault) -> u8
     }
 }
 
-/// The exit status after words that do not say what to do. The status is 2 if a word is not valid text.
+/// The exit status after words that give no order. The status is 2 if a word is not valid text.
 pub fn usage_status(fault: &UsageFault) -> u8
     ensures { result ≡ usage_status_of fault.now }
 {

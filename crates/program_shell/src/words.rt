@@ -9,7 +9,7 @@ use docket::DocketFault;
 use std::io;
 use std::process::ExitCode;
 
-/// The texts of the words, or the fault that a word is not valid text.
+/// The texts of the words, or the fault that one of them is not valid text.
 pub fn texts_of(words: io::Result<Vec<String>>) -> Result<Vec<String>, UsageFault>
     ensures texts { IfOk result (λ texts. words ≡ Ok texts) }
     ensures fault { IfErr result (IsTextFaultOf words) }
@@ -23,8 +23,8 @@ pub fn texts_of(words: io::Result<Vec<String>>) -> Result<Vec<String>, UsageFaul
     }
 }
 
-/// Prints why the words do not say what to do, and returns the exit status. Help and the version are answers, so the
-/// program fails if their text can't be written.
+/// Prints why the words give no order, and returns the exit status. Help and the version are answers, so the program
+/// fails if their text can't be written.
 pub fn refuse<T: Print + Eprint>(told: &T, fault: &UsageFault) -> ExitCode
     ensures { IsRefusedStatus fault.now (exit_status_in result) }
 {

@@ -36,7 +36,7 @@ pub(super) const WITH_JOURNAL: Order = Order::Match(MatchOptions {
     journal: JournalForm::Plain,
 });
 
-/// Serves what a command line asks, over a reader and a writer.
+/// Does what a command line asks, over a reader and a writer.
 pub(super) fn serve<
     R: Read + Drop,
     W: Write,
@@ -49,7 +49,7 @@ pub(super) fn serve<
     }
 }
 
-/// Whether a command over these texts returns this answer, writes this text, and ends with this exit status.
+/// Whether a command over these texts gives this answer, writes this text, and ends with this exit status.
 pub(super) fn serves<H: Threads + Wait + RandomSource + Sync + Send + Copy>(
     rt: H,
     alloc: Global,
@@ -64,7 +64,7 @@ pub(super) fn serves<H: Threads + Wait + RandomSource + Sync + Send + Copy>(
     Ok(answer == wanted && output.as_slice() == text.as_bytes() && exit_status(&answer) == exit)
 }
 
-// Whether an answer is the expected answer, with the number of a record at fault one higher.
+// Whether an answer is the expected one, but with the number of the record at fault one higher.
 fn is_further(
     alloc: Global,
     answer: &Result<Status, ServeFault>,
@@ -79,7 +79,8 @@ fn is_further(
     }
 }
 
-/// Whether a command returns this answer over these texts, and over the same texts in a docket of version 2.
+/// Whether a command gives this answer over these texts, and also over the same texts in a docket of version
+/// 2.
 pub(super) fn serves_both<H: Threads + Wait + RandomSource + Sync + Send + Copy>(
     rt: H,
     alloc: Global,

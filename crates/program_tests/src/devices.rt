@@ -21,7 +21,7 @@ const ORDERS: [(Order, Status, &str); 3] = [
     (Order::Replay, Status::ReplayGood, "G,9\n"),
 ];
 
-// Whether a command reports a reader that fails after `cut` bytes, names this record, and writes nothing.
+// Whether a command reports that the reader fails after `cut` bytes, names this record, and writes nothing.
 fn tells_of_cut<H: Threads + Wait + RandomSource + Sync + Send + Copy>(
     rt: H,
     alloc: Global,
@@ -82,7 +82,8 @@ fn tells_of_broken_readers(rt: HostRuntime) -> Result<(), Fail> {
     Ok(())
 }
 
-// Whether a command reports a writer that fails after `good` calls, and the writer got the beginning of the text.
+// Whether a command reports that the writer fails after `good` calls, and the writer got the beginning of the
+// text.
 fn tells_of_cut_output<H: Threads + Wait + RandomSource + Sync + Send + Copy>(
     rt: H,
     alloc: Global,
@@ -130,7 +131,7 @@ fn tells_of_broken_writers(rt: HostRuntime) -> Result<(), Fail> {
     Ok(())
 }
 
-// A reader without bytes to give at once has failed. The read is not made again, which would last for ever.
+// A reader that has no bytes to give at once has failed. It isn't read again, since that would go on for ever.
 #[test]
 fn tells_of_a_reader_that_would_block(rt: HostRuntime) -> Result<(), Fail> {
     let alloc = rt.alloc();

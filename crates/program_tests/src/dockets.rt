@@ -38,7 +38,7 @@ fn is_told(
     }
 }
 
-/// Whether reading the docket of these texts, one after another, ends as expected.
+/// Whether reading the docket in these texts, one after another, ends as expected.
 fn tells(alloc: Global, texts: &[&str], wanted: &str) -> Result<bool, AllocError> {
     let text = joined(alloc, texts)?;
     is_told(alloc, read(alloc, text.as_str()), wanted)
@@ -58,8 +58,8 @@ fn tells_both(alloc: Global, records: &str, wanted: &str) -> Result<bool, AllocE
     Ok(at_once && slowly)
 }
 
-/// The first line whose docket is read with another outcome than the line says, by a reader that gives all bytes at
-/// once or by a slow reader.
+/// The first line whose docket is read otherwise than the line says, by a reader that gives all bytes at once or by a
+/// slow one.
 ///
 /// Spaces separate the records in a line, and the expected outcome stands after ` = `.
 fn first_wrong<'a>(alloc: Global, lines: &'a str) -> Result<Option<&'a str>, AllocError> {
@@ -74,7 +74,7 @@ fn first_wrong<'a>(alloc: Global, lines: &'a str) -> Result<Option<&'a str>, All
     Ok(None)
 }
 
-/// Does what `first_wrong` does, for dockets of version 2 with the same records. The number of each record is one
+/// Does what `first_wrong` does, for the same records in dockets of version 2, where the number of each record is one
 /// higher.
 fn first_wrong_of_version_2<'a>(
     alloc: Global,

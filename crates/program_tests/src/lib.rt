@@ -1,5 +1,4 @@
-//! Small dockets with known results, as bytes, and what the calls for reading, for writing and of the program answer to
-//! them.
+//! Small dockets with known results, as bytes, and what reading, writing and the program answer to them.
 //!
 //! This crate has only tests, like `library_tests`.
 #![tactic(auto)]

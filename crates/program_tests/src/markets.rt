@@ -38,11 +38,11 @@ pub(super) fn push_lists(text: &mut String, alloc: Global) -> Result<(), AllocEr
     Ok(())
 }
 
-// A way round a circle: the length of a step, the number of steps, and the number of places on the circle.
+// A way round a circle: the length of a step, the number of steps, and how many places the circle has.
 type Round = (u32, u32, u32);
 
-// Adds a comma, a letter and a number for each place that the steps reach. The steps begin at place `first`, and `base`
-// is added to each number.
+// Adds `start` and a number for each place that the steps reach. The steps begin at place `first`, and `base` is
+// added to each number.
 fn push_round(
     text: &mut String,
     alloc: Global,
@@ -60,10 +60,11 @@ fn push_round(
     Ok(())
 }
 
-// Lengths of steps with which a walk reaches all of forty places, and all of twelve places.
+// Lengths of steps: with the first of each pair a walk reaches all of forty places, and with the second all of
+// twelve.
 const STEPS: [(u32, u32); 4] = [(3, 1), (7, 5), (11, 7), (13, 11)];
 
-// Adds the quota and the list of a programme of `hundreds`.
+// Adds the quota and the list of programme `p` of the docket `hundreds`.
 fn push_hundreds_programme(text: &mut String, alloc: Global, p: u32) -> Result<(), AllocError> {
     let (step, _) = STEPS[(p % 4) as usize];
     push_numbered(text, alloc, "Q,p", p, "")?;
@@ -73,7 +74,7 @@ fn push_hundreds_programme(text: &mut String, alloc: Global, p: u32) -> Result<(
     text.push_str("\n")
 }
 
-// Adds the list of a resident of `hundreds`.
+// Adds the list of resident `r` of the docket `hundreds`.
 fn push_hundreds_resident(text: &mut String, alloc: Global, r: u32) -> Result<(), AllocError> {
     let (_, step) = STEPS[(r % 4) as usize];
     push_numbered(text, alloc, "R,r", r, "")?;
@@ -81,8 +82,8 @@ fn push_hundreds_resident(text: &mut String, alloc: Global, r: u32) -> Result<()
     text.push_str("\n")
 }
 
-/// Twelve programmes with one to four places. Each ranks all forty residents, and each resident ranks ten programmes:
-/// 400 pairs, and thirty places.
+/// Twelve programmes with one to four places, thirty in all. Each ranks all forty residents, and each resident ranks
+/// ten programmes: 400 pairs.
 pub(super) fn hundreds(alloc: Global) -> Result<String, AllocError> {
     let mut text = String::new(alloc);
     for p in 0..12u32 {
@@ -94,7 +95,7 @@ pub(super) fn hundreds(alloc: Global) -> Result<String, AllocError> {
     Ok(text)
 }
 
-// Adds the residents who list a programme of `widest`: ten residents of each 2,000.
+// Adds the list of programme `p` of the docket `widest`: ten residents of each 2,000.
 fn push_widest_list(text: &mut String, alloc: Global, p: u32) -> Result<(), AllocError> {
     push_numbered(text, alloc, "P,p", p, "")?;
     for thousands in 0..10u32 {

@@ -35,7 +35,7 @@ fn replays_good_journals(rt: HostRuntime) -> Result<(), Fail> {
     Ok(())
 }
 
-// Journals that are refused, each with the row of the fault.
+// Journals that a replay refuses, each with the row of the fault.
 const REFUSED: [(&[&str], &str); 15] = [
     (&[QUOTAS, FULL, "E,take,x,a\n"], "N,1,nothing-waiting\n"),
     (
@@ -112,7 +112,7 @@ fn replays_bad_journals(rt: HostRuntime) -> Result<(), Fail> {
     Ok(())
 }
 
-// The events of a journal of the small docket.
+// The nine events of a journal of the small docket.
 const NINE: [&str; 9] = [
     "E,offer,a,x\n",
     "E,offer,b,y\n",
@@ -134,7 +134,8 @@ fn journal_of(alloc: Global, events: &[usize]) -> Result<String, AllocError> {
     Ok(journal)
 }
 
-// Which of the nine events a journal of the small docket has, and the answer of its replay.
+// For each journal made of some of the nine events of the small docket's journal, by their indices: what its
+// replay answers.
 const FORGED: [(&[usize], Status, &str, u8); 7] = [
     (&[0, 1, 2, 3, 4, 5, 6, 7, 8], Status::ReplayGood, "G,9\n", 0),
     (
@@ -253,8 +254,8 @@ fn refuses_wrong_workers(rt: HostRuntime) -> Result<(), Fail> {
     Ok(())
 }
 
-// Journals that were made before a member withdrew. The first offer by or to the withdrawn member is not the next offer
-// of any list.
+// Journals that were made before a member withdrew. The first offer by or to the withdrawn member is then no
+// programme's next offer.
 const REPLAYS: [(&[&str], Status, &str, u8); 3] = [
     (
         &[

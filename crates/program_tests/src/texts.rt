@@ -18,7 +18,7 @@ pub(super) const OTHER_SHEET: &str = "M,x,b\nM,y,a\nF,a,1,1\nF,b,1,1\n";
 pub(super) const SMALL_JOURNAL: &str =
     "E,offer,a,x\nE,offer,b,y\nE,take,x,a\nE,take,y,b\nE,answer,x,a,hold\nE,answer,y,b,hold\nE,hear,a,x,hold\nE,hear,b,y,hold\nE,close\n";
 
-/// The journal of `SMALL`, made by two workers in turn, without its last event.
+/// The journal of `SMALL` made by two workers in turn, without its last event.
 pub(super) const EIGHT_BY_TWO: &str =
     "C,full,2\nE,offer,a,x,0\nE,offer,b,y,1\nE,take,x,a,0\nE,take,y,b,1\nE,answer,x,a,hold,0\nE,answer,y,b,hold,1\nE,hear,a,x,hold,0\nE,hear,b,y,hold,1\n";
 
@@ -58,7 +58,7 @@ pub(super) const CLOSE: &str = "E,close\n";
 /// The first record of a docket of version 2, which may withdraw members.
 pub(super) const VERSION_2: &str = "V,2\n";
 
-/// The text of a fault, with the number of the record one higher.
+/// The text of a fault with the number of the record one higher.
 pub(super) fn further(alloc: Global, told: &str) -> Result<String, AllocError> {
     let Some((number, cause)) = told
         .strip_prefix("record ")

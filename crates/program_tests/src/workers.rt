@@ -31,8 +31,8 @@ fn rows_between(text: &[u8], start: &str, end: &str) -> u64 {
     count
 }
 
-// Adds the row that a replay writes for each worker. Returns whether the journal names each worker as often as the gate
-// counted the worker's entries.
+// Adds the row that a replay writes for each worker. Returns whether the journal names each worker as often as the
+// gate counted entries of that worker.
 fn is_named(
     alloc: Global,
     journal: &[u8],
@@ -50,7 +50,8 @@ fn is_named(
     Ok(same)
 }
 
-// Whether a match names the worker of each event, if its first receipt waits until another worker has made two events.
+// Whether a match names the worker of each event. Its first receipt waits until another worker has entered two
+// events.
 fn names_its_workers<H: Threads + Wait + RandomSource + Sync + Send + Copy>(
     rt: H,
     alloc: Global,
@@ -103,10 +104,10 @@ struct Receipt {
     is_found: bool,
 }
 
-// How often the gate lets other workers go first, so that another worker calls `pass` too.
+// How often the gate lets other workers go first, so that another worker makes a call of `pass`, too.
 const TURNS: u32 = 1_000_000;
 
-// A gate that notes each receipt. The gate keeps the first receipt waiting until another worker calls `pass`.
+// A gate that notes each receipt. It keeps the first receipt waiting until another worker makes a call of `pass`.
 #[derive(Drop)]
 struct Noting<R: Wait + Copy> {
     rt: R,
@@ -126,7 +127,7 @@ impl<R: Wait + Copy + Sync> Gate for Noting<R> {
             worker,
             is_found: false,
         };
-        // If the note of a receipt fails here, the receipt is missing when the journal names it.
+        // If there is no memory for the note of a receipt, the receipt is found missing when the journal names it.
         let _is_noted = self.receipts.lock(&self.rt).push(receipt).is_ok();
         if self.passed.fetch_add(1, Ordering::SeqCst) == 0 && self.workers > 1 {
             for _ in 0..TURNS {
@@ -142,7 +143,7 @@ impl<R: Wait + Copy + Sync> Gate for Noting<R> {
     fn entered(&self, _worker: usize) {}
 }
 
-// The worker of the next receipt of a desk. This receipt then counts as found.
+// The worker of the first receipt of this desk that was not found yet. The receipt then counts as found.
 fn next_at(receipts: &mut [Receipt], desk: Option<Desk>) -> Option<usize> {
     for receipt in receipts {
         if Some(receipt.desk) == desk && !receipt.is_found {
@@ -153,7 +154,7 @@ fn next_at(receipts: &mut [Receipt], desk: Option<Desk>) -> Option<usize> {
     None
 }
 
-// The worker of the receipt of a desk that was found last.
+// Of the receipts of a desk that were found, the worker of the last one.
 fn last_at(receipts: &[Receipt], desk: Option<Desk>) -> Option<usize> {
     let mut last = None;
     for receipt in receipts {
@@ -164,8 +165,8 @@ fn last_at(receipts: &[Receipt], desk: Option<Desk>) -> Option<usize> {
     last
 }
 
-// Whether the journal names, event by event, the worker that called `pass` for each receipt. The worker that takes an
-// offer also gives the answers due, before it takes the next offer.
+// Whether the journal names, for each receipt, the worker that called `pass` for it. The worker that takes an offer
+// also gives the answers due, before it takes the next offer.
 fn is_told_by(journal: &Journal, receipts: &mut [Receipt]) -> bool {
     let Some(by) = &journal.by else {
         return false;
@@ -219,7 +220,7 @@ fn tells_its_workers<H: Threads + Wait + RandomSource + Sync + Send + Copy>(
     Ok(status == Ok(Status::Closed) && is_told_by(journal, receipts.as_mut_slice()))
 }
 
-// A docket of one programme that ranks thirty residents and has a place for each of them.
+// A docket of one programme that ranks thirty residents and has a place for each.
 fn thirty(alloc: Global) -> Result<String, AllocError> {
     let mut text = String::new(alloc);
     text.push_str("Q,a,30\nP,a")?;

@@ -7,30 +7,19 @@ use Rattle.docket_names.proofs.WordFacts.{list_all_true_at}
 use Rattle.match_model.specs.Instance.{list_at, IsResident}
 use Rattle.match_model.specs.Written.{Written, AreWritten}
 use Rattle.match_model.proofs.Prefixes.{slice_get_push_parts}
-use Rattle.match_reasons.specs.Reason.{IsTaken}
-use Rattle.match_reasons.specs.declared.taken.Taken.{Taken}
 use Rattle.match_reasons.specs.declared.reason.Why.{Why}
 use Rattle.docket.specs.Contents.{Contents, draft_of}
 use Rattle.docket.specs.Whole.{IsWhole}
 use Rattle.docket.specs.WithLists.{IsReadWithin}
 use Rattle.match_model.specs.declared.limits.Limits.{Limits}
-use Rattle.reasons_text.specs.Answers.{AreFirst, AreOfRecord, AreTaken, CaseParts, IsAnswer, IsCase}
+use Rattle.reasons_text.specs.Answers.{AreFirst, AreOfRecord, CaseParts, IsAnswer, IsCase}
 use Rattle.reasons_text.specs.Faults.{IsCaseFaultWithin, IsOfNoCase}
 use Rattle.reasons_text.specs.declared.fault.WhyFault.{WhyFault}
 use Rattle.reasons_text.specs.declared.fault.WhyFault.TheVariants.{Docket, Reading, NoSheet, BadKey, DoubledKey, NoResident, NoProgramme, ManyResidents, ManyProgrammes, Records, EmptySheet}
 use Rattle.reasons_text.specs.Naming.{Naming, SideNames, no_names, own_names}
 
--- how the places of the first n + 1 programmes are taken, after programme n is counted
-pub AreTaken-push : (written : Written) (m : List (Option ℕ)) (takens : List Taken) (t : Taken) (n : ℕ) → length takens ≡ n → AreTaken written m takens →
-    IsTaken (list_at written.programme_lists n) m n t → AreTaken written m (takens ++ t ∷ [])
-AreTaken-push written m takens t n e h new p u at = elim (slice_get_push_parts takens t p u at) [
-  | inl old ↦ h p u old
-  | inr (i, same) ↦
-      let here : n ≡ p = sym e ∙ sym i in
-      subst (λ (v : Taken). IsTaken (list_at written.programme_lists p) m p v) same (subst (λ q. IsTaken (list_at written.programme_lists q) m q t) here new)
-]
-
--- the first answers about a resident's list, after one more answer
+-- if the reasons so far are the answers about the first programmes on a resident's list, they are
+-- so after the next answer
 pub AreFirst-push : (c : CaseParts) (r : ℕ) (mine : List ℕ) (reasons : List Why) (reason : Why) (p n : ℕ) → length reasons ≡ n →
     slice_get mine n ≡ Some p → AreFirst c r mine reasons → IsAnswer c r p reason → AreFirst c r mine (reasons ++ reason ∷ [])
 AreFirst-push c r mine reasons reason p n e there h new i q w at told = elim (slice_get_push_parts reasons reason i w told) [
@@ -57,7 +46,7 @@ read_of limits bytes d written h = record {
   members = h.members;
 }
 
--- a docket that was read and gives no case is the reason that there is no case
+-- a docket that was read but gives no case is a reason why there is no case
 pub no_case : (limits : Limits) (bytes : Option (List ℕ)) (d : Contents) (written : Written) (fault : WhyFault) → IsReadWithin limits bytes d written
     → IsOfNoCase d fault → IsCaseFaultWithin limits bytes fault
 no_case limits bytes d written (Docket e) read memory = inr memory

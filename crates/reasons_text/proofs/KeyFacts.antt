@@ -38,7 +38,7 @@ module _ (d : Contents) where
   unfolding fault_from
   none_bad key = refl
 
-  -- the names of the rows read so far, after one more row
+  -- if the names so far are those that the rows so far add, they are so after one more row was added
   pub one_added : (key now new : KeyNames) (done : List Fields) (row : Fields) → now ≡ all_added d key done → new ≡ added d now row
       → new ≡ all_added d key (done ++ row ∷ [])
   unfolding all_added
@@ -59,7 +59,7 @@ module _ (d : Contents) where
       or_nothing None = refl
       or_nothing (Some x) = refl
 
--- the fields before field 0 are all empty, and the fields before field i + 1 are if field i is empty too
+-- the fields of a row before field 0 are all blank
 pub blank_none : (row : Fields) → true ≡ is_blank_below row 0
 unfolding is_blank_below
 blank_none row = refl

@@ -12,7 +12,7 @@ use Rattle.reasons_text.specs.Naming.{KeyNames}
 abbrev pub bytes_left : Bor (List ℕ) → Option (List ℕ)
 bytes_left slice = Some slice.now
 
--- these rows were read
+-- the reader has read these rows of the key, and the rest of the key's bytes are left
 pub record HasRows (bytes : List ℕ) (reader : Reader (Bor (List ℕ))) (rows : List Fields) : Type 0 where
   pub config : reader_config reader ≡ key_config bytes
   pub source_is : IsSource reader

@@ -17,14 +17,14 @@ use Rattle.docket.specs.declared.fault.DocketFault.TheVariants as docket
 use Rattle.reasons_text.proofs.KeyFacts.{next_fault, none_added, none_bad, one_added}
 use Rattle.reasons_text.proofs.KeyInvariant.{HasAdded, HasRows, bytes_left}
 
--- no row was read
+-- before the first row the reader has read no rows of the key
 pub none_read : (bytes : List ℕ) (reader : Reader (Bor (List ℕ))) → reader_config reader ≡ key_config bytes → IsSource reader → reader_state reader ≡ st.StartRecord
     → source_of bytes_left reader ≡ Some (strip_bom bytes) → HasRows bytes reader []
 unfolding Reached
 none_read bytes reader config is start source = record { config = config; source_is = is; left = strip_bom bytes; source = source; reached = (rw start refl, refl) }
 
 module _ (bytes : List ℕ) (reader after : Reader (Bor (List ℕ))) (rows : List Fields) (was : HasRows bytes reader rows) (row : Fields) where
-  -- the rows read so far, after the next row was read
+  -- if the reader gave a row, it has read the rows before and this one
   pub reached_next : ReadRecord bytes_left reader after true row
       → (left : List ℕ) × (source_of bytes_left after ≡ Some left) × Reached (key_config bytes) st.StartRecord (strip_bom bytes) (rows ++ row ∷ []) (reader_state after) left
   reached_next read = rows-more bytes_left reader after row (key_config bytes) st.StartRecord (strip_bom bytes) was.left rows was.config was.source was.reached read
@@ -32,12 +32,12 @@ module _ (bytes : List ℕ) (reader after : Reader (Bor (List ℕ))) (rows : Lis
   pub one_read : ReadRecord bytes_left reader after true row → IsSource after → HasRows bytes after (rows ++ row ∷ [])
   one_read read ready = let next = reached_next read in record { config = read.2 ∙ was.config; source_is = ready; left = next.0; source = next.1; reached = next.2 }
 
-  -- all rows were read
+  -- if the reader gave no further row, the rows that it has read are all rows of the key
   pub all_read : ReadRecord bytes_left reader after false row → AreKeyRows bytes rows
   all_read read = (reader_state reader, was.left, was.reached, rows-end bytes_left reader after row (key_config bytes) was.left was.config was.source read)
 
 module _ (d : Contents) (bytes : List ℕ) (old : KeyNames) where
-  -- before the first row no name was added
+  -- before the first row of a key no name was added and no row has a fault
   pub rows_start : (reader : Reader (Bor (List ℕ))) → reader_config reader ≡ key_config bytes → IsSource reader
       → reader_state reader ≡ st.StartRecord → source_of bytes_left reader ≡ Some (strip_bom bytes) → HasAdded d bytes old old reader 0
   rows_start reader config is start source = record { done = []; read = none_read bytes reader config is start source; counted = refl; good = none_bad d old; added = none_added d old }

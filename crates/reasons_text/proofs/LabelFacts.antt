@@ -1,15 +1,18 @@
 -- Who has a name, and which members are shown with a label.
-use Rattle.std.proofs.Common.{◌≡◌, ◌≢◌, ◌∙◌, ◌<◌, ◌≤◌, ◌+◌, inl, inr, ℕ, Bool, true, false, List, [], ◌∷◌, ◌++◌, length, eq-eqb, Option, Some, refl, sym, ap, subst, arith, rules}
-use Rattle.std.proofs.lemmas.List.{length-append, length-map}
-use Rattle.std.specs.Prelude.{◌||◌, ◌==◌, if◌then◌else◌, nat_lt, unwrap_or, map, string_bytes, String}
+use Rattle.std.proofs.Common.{◌≡◌, ◌≢◌, ◌∙◌, ◌<◌, ◌≤◌, ◌+◌, inl, inr, ℕ, Bool, true, false, List, [], ◌∷◌, ◌++◌, length, get_or, eq-eqb, Option, Some, refl, sym, ap, subst, arith, rules}
+use Rattle.std.proofs.lemmas.List.{length-append}
+use Rattle.std.specs.Prelude.{◌||◌, ◌==◌, if◌then◌else◌, unwrap_or, map}
+use Rattle.std.specs.Borrow.{Bor}
+use Rattle.std.specs.HashMap.{HashMap}
+use Rattle.std.specs.List.{range_with_len}
 use Rattle.std.specs.Str.{bytes_eq}
-use Rattle.std.proofs.lemmas.Bool.{cases_Bool, cases_lt, eqb-true, ne_eqb}
-use Rattle.std.proofs.lemmas.Option.{slice_get_past}
+use Rattle.std.proofs.lemmas.List.FromFn.{get_or-map-range_with_len, length-map-range_with_len}
+use Rattle.std.proofs.lemmas.Bool.{cases_Bool, eqb-true, ne_eqb}
 use Rattle.std.proofs.lemmas.Slice.Eq.{bytes_eq-Decides}
 use Rattle.docket.specs.Contents.{Contents}
-use Rattle.reasons_text.specs.Keys.{AreLabelsBelow, IsLabel, IsShared, has_name, is_this, own_name}
-use Rattle.reasons_text.specs.Naming.{IsMeantBelow, SideNames, also_of, label_of, member_count, text_at}
-use Rattle.reasons_text.specs.Numbers.{IsOwner, label_if, label_where, owner_with}
+use Rattle.reasons_text.specs.Keys.{AreLabelsBelow, IsLabel, IsShared}
+use Rattle.reasons_text.specs.Naming.{IsMeantBelow, SideNames, also_of, is_by_key, is_meant, label_of, member_count, text_at}
+use Rattle.reasons_text.specs.Numbers.{AreFull, IsOwner, Notes, full_label, label_if, label_where, owner_in, owner_with}
 use Rattle.reasons_text.specs.declared.names.Meant.{Meant}
 use Rattle.reasons_text.specs.declared.names.Meant.TheVariants.{Nobody, One, Several}
 use Rattle.reasons_text.specs.declared.side.Side.{Side}
@@ -55,34 +58,19 @@ two_notes true false old mid new n h k = k ∙ h
 two_notes false true old mid new n h k = k ∙ rw h refl
 two_notes false false old mid new n h k = k ∙ h
 
--- both names of member n were noted: the docket's name, and the name in the key's row
-pub noted_both : (d : Contents) (side : Side) (names : List (List ℕ)) (text : List ℕ) (old mid new : Meant) (n : ℕ)
-    → mid ≡ (if is_this (own_name d side n) text then owner_with old n else old) → new ≡ (if is_this (text_at names n) text then owner_with mid n else mid)
-    → new ≡ (if has_name d side names text n then owner_with old n else old)
-unfolding has_name
-noted_both d side names text old mid new n h k = two_notes (is_this (own_name d side n) text) (is_this (text_at names n) text) old mid new n h k
+-- if member n was noted for the names that pass one test, then for those that pass another, it was
+-- noted for the names that pass either
+pub both_noted : {S : Type 0} (old mid new : HashMap (Bor (List ℕ)) Meant S) (a b : List ℕ → Bool) (n : ℕ) → Notes old mid a n → Notes mid new b n → Notes old new (λ text. a text || b text) n
+both_noted old mid new a b n h k text = two_notes (a text) (b text) (owner_in old text) (owner_in mid text) (owner_in new text) n (h text) (k text)
 
--- a number past the docket's members and the key's rows belongs to nobody with a name
-pub named_within : (d : Contents) (side : Side) (names : List (List ℕ)) (name : List ℕ) (n k : ℕ) → member_count d side ≤ n → length names ≤ n
-    → has_name d side names name k ≡ true → k < n
-unfolding has_name text_at
-named_within d side names name n k count rows has = elim (cases_lt k n) [
-  | inl lt ↦ lt
-  | inr past ↦
-      let outside : nat_lt k (member_count d side) ≡ false = grind (arith, count, past) in
-      let gone = slice_get_past names k (omega (arith, rows, past)) in
-      absurd (no_both has (rw (outside, gone) refl))
-]
+-- if no text passes the test, member n was noted for no text
+pub none_noted : {S : Type 0} (owners : HashMap (Bor (List ℕ)) Meant S) (test : List ℕ → Bool) (n : ℕ) → ((text : List ℕ) → test text ≡ false) → Notes owners owners test n
+none_noted owners test n none text = rw (none text) refl
 
-pub named_rows : {A : Type 0} (d : Contents) (side : Side) (rows : List (String A)) (name : List ℕ) (n k : ℕ) → member_count d side ≤ n → length rows ≤ n
-    → has_name d side (map string_bytes rows) name k ≡ true → k < n
-named_rows d side rows name n k count past has =
-    let same = length-map rows string_bytes in named_within d side (map string_bytes rows) name n k count (omega (arith, same, past)) has
-
--- a member has the name in its row of the key
-row_name : (d : Contents) (side : Side) (names : List (List ℕ)) (name : List ℕ) (n : ℕ) → text_at names n ≡ Some name → has_name d side names name n ≡ true
-unfolding has_name
-row_name d side names name n is = rw (is, (bytes_eq-Decides name name).1 refl) (either _)
+-- the name in a member's row of the key means this member
+row_name : (d : Contents) (side : Side) (read : SideNames) (name : List ℕ) (n : ℕ) → text_at read.names n ≡ Some name → is_meant d side read name n ≡ true
+unfolding is_meant is_by_key
+row_name d side read name n is = rw (is, (bytes_eq-Decides name name).1 refl) (either _)
   where
     either : (a : Bool) → (a || true) ≡ true
     either true = refl
@@ -97,25 +85,25 @@ other_of_two test n a b lt one other = elim (cases_Bool (a == n)) [
 
 module _ (d : Contents) (side : Side) (read : SideNames) (n : ℕ) where
   -- if another member has the same name, the label is shown, whichever member was noted for the name
-  shown_where : (name sign : List ℕ) (owner : Meant) → IsOwner d side read.names name owner → text_at read.names n ≡ Some name
-      → IsShared d side read.names name n → label_where owner name sign ≡ label_of name sign
+  shown_where : (name sign : List ℕ) (owner : Meant) → IsOwner d side read name owner → text_at read.names n ≡ Some name
+      → IsShared d side read name n → label_where owner name sign ≡ label_of name sign
   shown_where name sign Several h own shared = refl
   shown_where name sign (One r) h own shared =
-      let mine = row_name d side read.names name n own in
+      let mine = row_name d side read name n own in
       let here = h.is.1.1 n (h.all n mine) mine in
       let there = h.is.1.1 shared.0 (h.all shared.0 shared.1.1) shared.1.1 in
       absurd (shared.1.0 (there ∙ sym here))
-  shown_where name sign Nobody h own shared = let mine = row_name d side read.names name n own in absurd (no_both mine (h.is n (h.all n mine)))
+  shown_where name sign Nobody h own shared = let mine = row_name d side read name n own in absurd (no_both mine (h.is n (h.all n mine)))
 
-  hidden_where : (name sign : List ℕ) (owner : Meant) → IsOwner d side read.names name owner → (IsShared d side read.names name n → ⊥)
+  hidden_where : (name sign : List ℕ) (owner : Meant) → IsOwner d side read name owner → (IsShared d side read name n → ⊥)
       → label_where owner name sign ≡ []
   hidden_where name sign Several h alone =
-      absurd (alone (other_of_two (has_name d side read.names name) n h.is.0 h.is.1.0 h.is.1.1.0 h.is.1.1.1.1.0 h.is.1.1.1.1.1))
+      absurd (alone (other_of_two (is_meant d side read name) n h.is.0 h.is.1.0 h.is.1.1.0 h.is.1.1.1.1.0 h.is.1.1.1.1.1))
   hidden_where name sign (One r) h alone = refl
   hidden_where name sign Nobody h alone = refl
 
   -- the label that is made from the map of names is the label by definition
-  pub is_label : (owner : List ℕ → Meant) (label : List ℕ) → ((name : List ℕ) → IsOwner d side read.names name (owner name))
+  pub is_label : (owner : List ℕ → Meant) (label : List ℕ) → ((name : List ℕ) → IsOwner d side read name (owner name))
       → label ≡ label_if owner (text_at read.names n) (unwrap_or (text_at read.signs n) []) → IsLabel d side read n label
   is_label owner label owners is = record {
     shared = λ name own shared. is ∙ rw own (shown_where name _ (owner name) (owners name) own shared);
@@ -123,7 +111,7 @@ module _ (d : Contents) (side : Side) (read : SideNames) (n : ℕ) where
     nameless = λ none. is ∙ rw none refl;
   }
 
--- the labels of no member, and the labels after one more member
+-- before the first member there are no labels
 pub labels_none : (d : Contents) (side : Side) (read : SideNames) → AreLabelsBelow d side read 0 []
 labels_none d side read = record { each = refl; label = λ n label at. absurd (cc at) }
 
@@ -149,3 +137,15 @@ noted_one lookup now name n owner is put text = elim (cases_Bool (bytes_eq name 
       rw (put text, here) (is ∙ ap (λ (t : List ℕ). owner_with (unwrap_or (lookup t) Nobody) n) same)
   | inr not ↦ rw (put text, not) refl
 ]
+
+-- once the labels of all members and of all rows of the key were made, they are all labels of the
+-- side
+pub all_full : (d : Contents) (side : Side) (read : SideNames) (labels : List (List ℕ)) (n : ℕ) → member_count d side ≤ n → length read.names ≤ n
+    → labels ≡ map (full_label read) (range_with_len 0 n) → AreFull d side read labels
+all_full d side read labels n members rows are =
+    let size : length labels ≡ n = ap length are ∙ length-map-range_with_len (full_label read) 0 n in
+    record {
+      members = omega (arith, size, members);
+      rows = omega (arith, size, rows);
+      are = λ k l. (let within : k < n = omega (arith, size, l) in ap (λ (t : List (List ℕ)). get_or t k []) are ∙ get_or-map-range_with_len (full_label read) 0 n k k [] within (let z : 0 + k ≡ k = omega arith in z));
+    }

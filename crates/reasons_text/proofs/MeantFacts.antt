@@ -4,7 +4,8 @@ use Rattle.std.specs.Prelude.{◌&&◌, ◌||◌, nat_lt}
 use Rattle.std.proofs.lemmas.Bool.{cases_lt}
 use Rattle.std.proofs.lemmas.Option.{slice_get_past}
 use Rattle.std.proofs.lemmas.Slice.Eq.{bytes_eq-Decides}
-use Rattle.reasons_text.specs.Naming.{IsMeantBelow, Naming, also_of, docket_name, is_by_key, means, member_count, names_in, no_names, text_at}
+use Rattle.docket.specs.Contents.{Contents}
+use Rattle.reasons_text.specs.Naming.{IsMeantBelow, Naming, SideNames, also_of, docket_name, is_by_key, is_meant, means, member_count, names_in, no_names, text_at}
 use Rattle.reasons_text.specs.declared.names.Meant.{Meant}
 use Rattle.reasons_text.specs.declared.names.Meant.TheVariants.{Nobody, One, Several}
 use Rattle.reasons_text.specs.declared.side.Side.{Side}
@@ -12,7 +13,7 @@ use Rattle.reasons_text.specs.declared.side.Side.{Side}
 pub meant_none : (test : ℕ → Bool) → IsMeantBelow test 0 Nobody
 meant_none test k h = absurd (omega (arith, h))
 
--- a number below n + 1 is below n or is n
+-- a number below n + 1 is below n, or it is n
 next_or : (k n : ℕ) → k < n + 1 → (k < n) ⊎ (k ≡ n)
 next_or k n h = elim (cases_lt k n) [
   | inl below ↦ inl below
@@ -59,25 +60,23 @@ not_below : (k n : ℕ) → n ≤ k → nat_lt k n ≡ false
 not_below k n h = grind (arith, h)
 
 -- a text means nobody at a number past the docket's members and the key's rows
-unmeant : (names : Naming) (side : Side) (text : List ℕ) (k : ℕ) → member_count names.docket side ≤ k → length (names_in names side).names ≤ k
-    → means names side text k ≡ false
-unfolding means text_at is_by_key
-unmeant names side text k count rows =
-    let past = slice_get_past (names_in names side).names k rows in
-    let outside = not_below k (member_count names.docket side) count in
+unmeant : (d : Contents) (side : Side) (key : SideNames) (text : List ℕ) (k : ℕ) → member_count d side ≤ k → length key.names ≤ k → is_meant d side key text k ≡ false
+unfolding is_meant text_at is_by_key
+unmeant d side key text k count rows =
+    let past = slice_get_past key.names k rows in
+    let outside = not_below k (member_count d side) count in
     rw (past, outside) refl
 
-pub meant_within : (names : Naming) (side : Side) (text : List ℕ) (n k : ℕ) → member_count names.docket side ≤ n → length (names_in names side).names ≤ n
-    → means names side text k ≡ true → k < n
-meant_within names side text n k count rows met = elim (cases_lt k n) [
+pub meant_within : (d : Contents) (side : Side) (key : SideNames) (text : List ℕ) (n k : ℕ) → member_count d side ≤ n → length key.names ≤ n → is_meant d side key text k ≡ true → k < n
+meant_within d side key text n k count rows met = elim (cases_lt k n) [
   | inl lt ↦ lt
-  | inr past ↦ absurd (no_both met (unmeant names side text k (omega (arith, count, past)) (omega (arith, rows, past))))
+  | inr past ↦ absurd (no_both met (unmeant d side key text k (omega (arith, count, past)) (omega (arith, rows, past))))
 ]
 
 -- without a key, a text means only the member whose name in the docket it is
 pub by_docket : (names : Naming) (side : Side) (text : List ℕ) (k : ℕ) → names_in names side ≡ no_names → means names side text k ≡ true
     → docket_name names.docket side k ≡ text
-unfolding means text_at is_by_key
+unfolding is_meant text_at is_by_key
 by_docket names side text k none met = (bytes_eq-Decides (docket_name names.docket side k) text).0 (second _ _ (left_of _ (rw none at met)))
   where
     left_of : (a : Bool) → (a || false) ≡ true → a ≡ true

@@ -51,14 +51,15 @@ module _ (lookup : List ℕ → Option ℕ) (name : List ℕ) (n : ℕ) where
     | inr not ↦ put text ∙ rw (not, other_both name text not) (sym (or_nothing (lookup text)))
   ]
 
--- for each name the number of the first of n + 1 members with this name
+-- for each name the number of the first of n + 1 members with it is that of the first of n, or else
+-- n if member n has the name
 pub number_more : (d : Contents) (side : Side) (n : ℕ) (own : List ℕ) (lookup now : List ℕ → Option ℕ) → own ≡ docket_name d side n
     → ((name : List ℕ) → lookup name ≡ first_named d side name n)
     → ((name : List ℕ) → now name ≡ option_or (lookup name) (if bytes_eq name own then Some n else None)) → (name : List ℕ) → now name ≡ first_named d side name (n + 1)
 unfolding first_named
 number_more d side n own lookup now is was put name = put name ∙ rw (add-one, was name, is) refl
 
--- among no members nobody has a name
+-- among no members, no member has the name
 pub numbers_none : (d : Contents) (side : Side) (name : List ℕ) → None ≡ first_named d side name 0
 unfolding first_named
 numbers_none d side name = refl

@@ -16,7 +16,7 @@ use Rattle.reasons_text.specs.declared.real_names.NamesFault.{NamesFault}
 use Rattle.reasons_text.specs.declared.side.Side.{Side}
 use Rattle.reasons_text.specs.declared.side.Side.TheVariants.{Programmes, Residents}
 
--- without a row nobody is named
+-- before the first row of a key no member is named
 pub named_none : (d : Contents) (side : Side) (count : ℕ) → count ≡ member_count d side → AreNamed d side [] (replicate count None)
 named_none d side count e = record {
   each = length-replicate count None ∙ e;
@@ -27,11 +27,11 @@ or_nothing : (o : Option Fields) → option_or o None ≡ o
 or_nothing None = refl
 or_nothing (Some x) = refl
 
--- a row that doesn't name the member changes nothing for it
+-- a row that doesn't name the member leaves the member's real name as it was
 not_named : (d : Contents) (side : Side) (done : List Fields) (row : Fields) (n : ℕ) → names_member d side n row ≡ false → real_name d side (done ++ row ∷ []) n ≡ real_name d side done n
 not_named d side done row n e = ap (option_map real_fields) (find-append (names_member d side n) done (row ∷ []) ∙ rw e (or_nothing (find (names_member d side n) done)))
 
--- a row that names it is the first, if there is none before
+-- a row that names a member who had no real name gives the member's real name
 first_named : (d : Contents) (side : Side) (done : List Fields) (row : Fields) (n : ℕ) → names_member d side n row ≡ true → real_name d side done n ≡ None
     → real_name d side (done ++ row ∷ []) n ≡ Some (real_fields row)
 first_named d side done row n e none =
@@ -41,7 +41,7 @@ first_named d side done row n e none =
     by None h = rw e refl
     by (Some r) h = absurd (cc h)
 
--- a row before stays the first
+-- a member who has a real name keeps it after one more row
 still_named : (d : Contents) (side : Side) (done : List Fields) (row fields : Fields) (n : ℕ) → real_name d side done n ≡ Some fields
     → real_name d side (done ++ row ∷ []) n ≡ Some fields
 still_named d side done row fields n some =
@@ -51,7 +51,8 @@ still_named d side done row fields n some =
     by None h = absurd (cc h)
     by (Some r) h = h
 
--- the names after one more row
+-- the real names of a side's members after one more row: the row's member has one from this row, if there
+-- was none before
 pub named_more : (d : Contents) (side : Side) (done : List Fields) (row : Fields) (names : List (Option Fields)) → AreNamed d side done names
     → AreNamed d side (done ++ row ∷ []) (with_first names (named_by d side row) (real_fields row))
 named_more d side done row names h = by (named_by d side row) refl
@@ -86,7 +87,8 @@ named_more d side done row names h = by (named_by d side row) refl
                 ∙ get_or-set_same names m (Some (real_fields row)) None (omega (arith, within, e, h.each))
                 ∙ sym (first_named d side done row n (names_it n ∙ same) none)
 
--- both sides after one more row
+-- the real names of both sides after one more row are those before, with the row's own added if its member
+-- had none
 pub real_more : (d : Contents) (done : List Fields) (row : Fields) (real : Real) → AreRealIn d done real → AreRealIn d (done ++ row ∷ []) (with_row d real row)
 real_more d done row real h = record { programmes = named_more d Programmes done row real.programmes h.programmes; residents = named_more d Residents done row real.residents h.residents }
 
@@ -105,7 +107,7 @@ module _ (d : Contents) where
       let e : n + 1 + length more ≡ n + length (row ∷ more) = omega arith in
       rw both.0 (real_fault_after (added d key row) (n + 1) more rest both.1 ∙ ap (λ k. real_fault_from d (all_added d (added d key row) more) k rest) e)
 
-  -- the first fault is that of the next row
+  -- if the rows so far have no fault, a fault of the next row is the first fault of all rows
   pub real_fault_next : (key now : KeyNames) (done rest : List Fields) (row : Fields) (fault : NamesFault) → real_fault_from d key 0 done ≡ None → now ≡ all_added d key done
       → real_fault d now (length done + 1) row ≡ Some fault → real_fault_from d key 0 (done ++ (row ∷ rest)) ≡ Some fault
   unfolding real_fault_from
@@ -115,7 +117,7 @@ module _ (d : Contents) where
       ∙ ap (λ (o : Option NamesFault). option_or o (real_fault_from d (added d (all_added d key done) row) (length done + 1) rest))
       (ap (λ (k : KeyNames). real_fault d k (length done + 1) row) (sym was) ∙ here)
 
-  -- the next row has none
+  -- if the rows so far have no fault and the next row has none, the rows with this one have none
   pub real_fault_more : (key now : KeyNames) (done : List Fields) (row : Fields) → real_fault_from d key 0 done ≡ None → now ≡ all_added d key done
       → real_fault d now (length done + 1) row ≡ None → real_fault_from d key 0 (done ++ row ∷ []) ≡ None
   unfolding real_fault_from
@@ -142,13 +144,13 @@ has_more d done row key more real next h is clear e = record {
   named = rw e (real_more d done row real h.named);
 }
 
--- the rows up to one at a place, and that one
+-- the first k + 1 rows are the first k and the row at place k
 pub rows_to : (rows : List Row) (k : ℕ) (r : Row) → k < length rows → r ≡ get_or rows k r → take (k + 1) (map fields_of rows) ≡ take k (map fields_of rows) ++ fields_of r ∷ []
 rows_to rows k r within here =
     take_more (map fields_of rows) k (fields_of r) (omega (arith, within, length-map rows fields_of))
     ∙ ap (λ (x : Fields). take k (map fields_of rows) ++ x ∷ []) (get_or-map fields_of rows k r (fields_of r) within ∙ ap fields_of (sym here))
 
--- the rows so far, the row at a place, and those after it
+-- all rows are the first k, then the row at place k, then those after it
 pub rows_split : (rows : List Row) (k : ℕ) (r : Row) → k < length rows → r ≡ get_or rows k r
     → map fields_of rows ≡ take k (map fields_of rows) ++ (fields_of r ∷ drop (k + 1) (map fields_of rows))
 rows_split rows k r within here =
@@ -158,11 +160,12 @@ rows_split rows k r within here =
 pub rows_before : (rows : List Row) (k : ℕ) → k < length rows → length (take k (map fields_of rows)) ≡ k
 rows_before rows k within = length-take-le k (map fields_of rows) (omega (arith, within, length-map rows fields_of))
 
--- all rows were noted
+-- if the names of the first k rows were noted, and there are at most k rows, those of all rows were noted
 pub has_all : (d : Contents) (rows : List Fields) (k : ℕ) (key : KeyNames) (real : Real) → length rows ≤ k → HasNamed d (take k rows) key real → HasNamed d rows key real
 has_all d rows k key real past h = rw (take_all k rows past) at h
 
--- the fault of a row after those that were noted is the first of all
+-- if the names of the first k rows were noted without a fault, a fault of the next row is the first of all
+-- rows
 pub has_fault : (d : Contents) (rows : List Row) (k : ℕ) (r : Row) (key : KeyNames) (real : Real) (fault : NamesFault) → k < length rows → r ≡ get_or rows k r
     → HasNamed d (take k (map fields_of rows)) key real → real_fault d key (k + 1) (fields_of r) ≡ Some fault → real_fault_from d (unnamed d) 0 (map fields_of rows) ≡ Some fault
 has_fault d rows k r key real fault within here h at =
@@ -170,7 +173,7 @@ has_fault d rows k r key real fault within here h at =
     ap (real_fault_from d (unnamed d) 0) (rows_split rows k r within here)
     ∙ real_fault_next d (unnamed d) key (take k (map fields_of rows)) (drop (k + 1) (map fields_of rows)) (fields_of r) fault h.clear h.key_is (rw place at)
 
--- what is made of nothing is nothing
+-- an option is none after its value was mapped exactly if it was none before
 pub is_none_too : {A B : Type 0} (f : A → B) (o : Option A) → is_none (option_map f o) ≡ is_none o
 is_none_too f None = refl
 is_none_too f (Some x) = refl

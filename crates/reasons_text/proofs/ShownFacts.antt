@@ -15,7 +15,7 @@ pub shown_text_step : (text rest : List ℕ) (c : ℕ) → IsUtf8 text → text 
 unfolding shown_text
 shown_text_step text rest c utf8 parts = rw (chars_past_char text rest c utf8 parts)
 
--- a text with a hidden character at its front, with another one, and without any
+-- if a text begins with a hidden character, it has a hidden character
 pub hidden_here : (text rest : List ℕ) (c : ℕ) → IsUtf8 text → text ≡ encode_utf8 c ++ rest → is_hidden c ≡ true → list_any is_hidden (chars text) ≡ true
 hidden_here text rest c utf8 parts h = rw (chars_past_char text rest c utf8 parts, h) refl
 

@@ -3,7 +3,7 @@ use Rattle.std.specs.Prelude.{◌≡◌, ℕ, Bool, true, false, Option, Some, N
 use Rattle.match_model.specs.Instance.{list_at}
 use Rattle.match_model.specs.Written.{Written}
 use Rattle.match_model.specs.declared.limits.Limits.{Limits}
-use Rattle.match_reasons.specs.Reason.{IsFirst, IsTaken}
+use Rattle.match_reasons.specs.Reason.{AreTaken, IsFirst}
 use Rattle.match_reasons.specs.declared.taken.Taken.{Taken}
 use Rattle.match_reasons.specs.declared.reason.Why.{Why}
 use Rattle.match_reasons.specs.declared.reason.Why.TheVariants.{Withdrawn, NotListed, NotRanked, Matched, PrefersOwn, Full, Blocking}
@@ -22,10 +22,6 @@ pub record CaseParts : Type 0 where
 
 abbrev pub case_of : Contents → List (Option ℕ) → Written → List Taken → CaseParts
 case_of docket sheet written takens = record { docket = docket; sheet = sheet; written = written; takens = takens }
-
--- entry p says how the places of programme p are taken
-abbrev pub AreTaken : Written → List (Option ℕ) → List Taken → Type 0
-AreTaken written m takens = (p : ℕ) (t : Taken) → slice_get takens p ≡ Some t → IsTaken (list_at written.programme_lists p) m p t
 
 -- the docket was read with these lists, within some limits
 pub record WasRead (d : Contents) (written : Written) : Type 0 where

@@ -24,12 +24,13 @@ counted marks c =
 abbrev pub ends_line : Marks → ℕ → Bool
 ends_line marks c = c == 10 && (not marks.is_quoted && (nat_lt 0 marks.commas || (nat_lt 0 marks.semicolons || nat_lt 0 marks.tabs)))
 
--- the counts of the first line that has a mark
+-- the counts of the first line that has a mark outside quotes
 unfoldable pub marks_of : Marks → List ℕ → Marks
 marks_of marks [] = marks
 marks_of marks (c ∷ rest) = if ends_line marks c then marks else marks_of (counted marks c) rest
 
--- the mark with the highest count: a semicolon, a tab, or else a comma
+-- a semicolon if it is more frequent than each other mark, else a tab if it is more frequent than a comma, else a
+-- comma
 abbrev pub chosen : Marks → ℕ
 chosen marks =
     if nat_lt marks.commas marks.semicolons && nat_lt marks.tabs marks.semicolons then 59

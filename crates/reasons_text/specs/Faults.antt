@@ -38,8 +38,8 @@ IsOfNoCase d NoSheet = d.sheet ≡ None
 IsOfNoCase d (Docket e) = e ≡ docket.Memory
 IsOfNoCase d fault = ⊥
 
--- Why no docket with a sheet was read within these limits. Without random bytes of the machine, the fault is that of a
--- reader.
+-- Why no docket with a sheet was read within these limits. If the machine had no random bytes, the fault is one of
+-- reading.
 abbrev pub IsCaseFaultWithin : Limits → Option (List ℕ) → WhyFault → Type 0
 IsCaseFaultWithin limits bytes (Docket e) = IsReadFault e ⊎ (e ≡ docket.Memory)
 IsCaseFaultWithin limits bytes (Reading e) = IsDocketFault limits bytes e
@@ -54,7 +54,7 @@ IsFaultOrMemory first fault = (fault ≡ Docket docket.Memory) ⊎ (first ≡ So
 abbrev pub IsKeyFault : Contents → List ℕ → WhyFault → Type 0
 IsKeyFault d bytes fault = (fault ≡ Docket docket.Memory) ⊎ HasBadRow d (unnamed d) bytes fault
 
--- the fault says that a name belongs to no member of the side, or to more than one
+-- the fault says that a name belongs to no member of this side; `IsSharedName` says that it belongs to more than one
 abbrev pub IsUnknownName : Side → WhyFault → Type 0
 IsUnknownName Residents (NoResident told) = Unit {0}
 IsUnknownName Programmes (NoProgramme told) = Unit {0}

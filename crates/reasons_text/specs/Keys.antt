@@ -1,5 +1,5 @@
 -- Which names the bytes of a key give, and to which members.
-use Rattle.std.specs.Prelude.{◌≡◌, ◌≢◌, ℕ, zero, suc, ◌+◌, ◌==◌, ◌&&◌, ◌||◌, nat_lt, not, is_none, Bool, true, false, if◌then◌else◌, Option, Some, None, unwrap_or, List, [], ◌∷◌, ◌++◌, bytes_eq, codes, length, slice_get, slice_set, replicate}
+use Rattle.std.specs.Prelude.{◌≡◌, ◌≢◌, ℕ, zero, suc, ◌+◌, ◌==◌, ◌&&◌, ◌||◌, not, is_none, Bool, true, false, if◌then◌else◌, Option, Some, None, unwrap_or, List, [], ◌∷◌, ◌++◌, bytes_eq, codes, length, slice_get, slice_set, replicate}
 use Rattle.std.specs.Option.{option_or}
 use Rattle.std.specs.Str.{is_utf8}
 use Rattle.csv.specs.Reading.{AreRecords, Reached, default_config, strip_bom}
@@ -9,21 +9,22 @@ use Rattle.csv.specs.declared.parser.State.TheVariants as st
 use Rattle.docket.specs.Contents.{Contents}
 use Rattle.records.specs.Reading.{Fields, field}
 use Rattle.reasons_text.specs.Delimiter.{delimiter_of}
-use Rattle.reasons_text.specs.Naming.{IsKeyless, KeyNames, Naming, SideNames, docket_name, label_of, member_count, text_at}
+use Rattle.reasons_text.specs.Naming.{IsKeyless, KeyNames, Naming, SideNames, docket_name, is_meant, label_of, member_count, text_at}
 use Rattle.reasons_text.specs.Shown.{shown_text}
 use Rattle.reasons_text.specs.declared.fault.WhyFault.{WhyFault}
 use Rattle.reasons_text.specs.declared.fault.WhyFault.TheVariants.{BadKey, DoubledKey}
 use Rattle.reasons_text.specs.declared.side.Side.{Side}
 use Rattle.reasons_text.specs.declared.side.Side.TheVariants.{Programmes, Residents}
 
--- how a key's rows are read: what `csv` reads from its bytes after any byte order mark, with this mark between fields
+-- how a key's rows are read: as `csv` does by default, but with the key's mark between fields; `AreKeyRows` are all
+-- rows of these bytes
 abbrev pub key_config : List ℕ → Config
 key_config bytes = record default_config { delimiter = delimiter_of bytes }
 
 abbrev pub AreKeyRows : List ℕ → List Fields → Type 0
 AreKeyRows bytes rows = AreRecords (key_config bytes) st.StartRecord (strip_bom bytes) rows
 
--- these rows are the first ones of the bytes
+-- these rows are the first ones of a key with these bytes
 abbrev pub AreFirstRows : List ℕ → List Fields → Type 0
 AreFirstRows bytes rows = (s : State) × ((rest : List ℕ) × Reached (key_config bytes) st.StartRecord (strip_bom bytes) rows s rest)
 
@@ -85,7 +86,7 @@ fault_by_side d key place row (Some Residents) = side_fault d Residents key.resi
 abbrev pub row_fault : Contents → KeyNames → ℕ → Fields → Option WhyFault
 row_fault d key place row = fault_by_side d key place row (row_side row)
 
--- the names with those of a row added; a row of empty fields is skipped
+-- the names with those of a row added; a row that belongs to no side adds none
 abbrev pub added_by_side : Contents → KeyNames → Fields → Option Side → KeyNames
 added_by_side d key row None = key
 added_by_side d key row (Some Programmes) = record key { programmes = with_row d Programmes row key.programmes }
@@ -99,7 +100,7 @@ unfoldable pub all_added : Contents → KeyNames → List Fields → KeyNames
 all_added d key [] = key
 all_added d key (row ∷ rest) = all_added d (added d key row) rest
 
--- the first fault of these rows, with the number of rows before them
+-- the first fault of these rows, if the key has `before` rows before them
 unfoldable pub fault_from : Contents → KeyNames → ℕ → List Fields → Option WhyFault
 fault_from d key before [] = None
 fault_from d key before (row ∷ rest) = option_or (row_fault d key (before + 1) row) (fault_from d (added d key row) (before + 1) rest)
@@ -111,31 +112,18 @@ unnamed_side count = record { names = replicate count []; signs = replicate coun
 abbrev pub unnamed : Contents → KeyNames
 unnamed d = record { residents = unnamed_side (member_count d Residents); programmes = unnamed_side (member_count d Programmes) }
 
--- whether there is a text, and it equals this one
-abbrev pub is_this : Option (List ℕ) → List ℕ → Bool
-is_this None name = false
-is_this (Some text) name = bytes_eq text name
+-- the text also means another member of the side; rows of members outside the docket count too
+abbrev pub IsShared : Contents → Side → SideNames → List ℕ → ℕ → Type 0
+IsShared d side read text n = (k : ℕ) × ((k ≢ n) × (is_meant d side read text k ≡ true))
 
--- the docket's name of a member, if the member belongs to the docket
-abbrev pub own_name : Contents → Side → ℕ → Option (List ℕ)
-own_name d side n = if nat_lt n (member_count d side) then Some (docket_name d side n) else None
-
--- whether a member has this name, in the docket or by a row of the key; rows of members outside the docket count too
-unfoldable pub has_name : Contents → Side → List (List ℕ) → List ℕ → ℕ → Bool
-has_name d side names name n = is_this (own_name d side n) name || is_this (text_at names n) name
-
--- another member of the side also has the name
-abbrev pub IsShared : Contents → Side → List (List ℕ) → List ℕ → ℕ → Type 0
-IsShared d side names name n = (k : ℕ) × ((k ≢ n) × (has_name d side names name k ≡ true))
-
--- The label of a member: the real name with the sign if another member has this name, else nothing. A member without
--- a name in the key has no label.
+-- The label of a member: the real name with the sign if a question with this name alone means another member too, else
+-- nothing. A member without a name in the key has no label.
 pub record IsLabel (d : Contents) (side : Side) (read : SideNames) (n : ℕ) (label : List ℕ) : Type 0 where
-  pub shared : (name : List ℕ) → text_at read.names n ≡ Some name → IsShared d side read.names name n → label ≡ label_of name (unwrap_or (text_at read.signs n) [])
-  pub alone : (name : List ℕ) → text_at read.names n ≡ Some name → (IsShared d side read.names name n → ⊥) → label ≡ []
+  pub shared : (name : List ℕ) → text_at read.names n ≡ Some name → IsShared d side read name n → label ≡ label_of name (unwrap_or (text_at read.signs n) [])
+  pub alone : (name : List ℕ) → text_at read.names n ≡ Some name → (IsShared d side read name n → ⊥) → label ≡ []
   pub nameless : text_at read.names n ≡ None → label ≡ []
 
--- each of the first members of a side, below a count, has its label
+-- each of the first `count` members of a side has its label
 pub record AreLabelsBelow (d : Contents) (side : Side) (read : SideNames) (count : ℕ) (labels : List (List ℕ)) : Type 0 where
   pub each : length labels ≡ count
   pub label : (n : ℕ) (label : List ℕ) → slice_get labels n ≡ Some label → IsLabel d side read n label
@@ -157,7 +145,7 @@ pub record AddsAll (d : Contents) (bytes : List ℕ) (old new : KeyNames) : Type
   pub faultless : fault_from d old 0 rows ≡ None
   pub added : new ≡ all_added d old rows
 
--- the fault is the fault of the first bad row
+-- the fault is that of the key's first bad row
 pub record HasBadRow (d : Contents) (old : KeyNames) (bytes : List ℕ) (fault : WhyFault) : Type 0 where
   pub rows : List Fields
   pub are_first : AreFirstRows bytes rows

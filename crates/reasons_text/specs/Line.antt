@@ -14,7 +14,7 @@ use Rattle.reasons_text.specs.declared.question.Question.{Question}
 abbrev pub program_app : App
 program_app = on_top (λ s. record s { no_binary_name = true; has_version = true }) (new_app (codes "residency-why"))
 
--- the program's command line with its two words, its two flags, and its two options for files
+-- the program's command line with its two words and its two flags; `why_app` also has its two options for files
 abbrev pub flagged_app : App
 flagged_app = with_rule (with_rule (with_rule (with_rule program_app (word_rule (codes "resident"))) (word_rule (codes "programme")))
     (flag_rule (codes "all"))) (flag_rule (codes "without-ranks"))
@@ -22,8 +22,8 @@ flagged_app = with_rule (with_rule (with_rule (with_rule program_app (word_rule 
 abbrev pub why_app : App
 why_app = with_rule (with_rule flagged_app (value_rule (codes "key"))) (value_rule (codes "sheet"))
 
--- The question that the words of a command line ask: about a resident, and perhaps a programme. Without words the question
--- is about all.
+-- The question that a resident's name, and perhaps a programme's name, on a command line ask. Such a question is
+-- never about all.
 abbrev pub IsAskedBy : Option Text → Option Text → Asked → Type 0
 IsAskedBy resident programme asked.All = ⊥
 IsAskedBy resident programme (asked.Resident name) = (resident ≡ Some name.now) × (programme ≡ None)

@@ -24,7 +24,7 @@ ending rank =
 unfoldable pub place_text : ℕ → List ℕ
 place_text rank = decimal (from_one rank) ++ ending rank
 
--- a count as a text; zero is a word
+-- a count as a text; `none` for zero
 unfoldable pub count_text : ℕ → List ℕ
 count_text n = if n == 0 then codes "none" else decimal n
 
@@ -60,7 +60,7 @@ sentence names without_ranks r (Full rank last_rank quota) = full_sentence witho
 sentence names without_ranks r Blocking =
     codes "you would rather be here, and it would rather have you. This sheet is not right: please tell the office."
 
--- the line about a programme: its name, the sentence, and a line feed
+-- the line for resident r about programme p: the programme's name, the sentence, and a line feed
 unfoldable pub line : Naming → Bool → ℕ → ℕ → Why → List ℕ
 line names without_ranks r p reason = shown_programme names p ++ codes ": " ++ sentence names without_ranks r reason ++ codes "\n"
 

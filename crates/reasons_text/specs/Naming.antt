@@ -12,8 +12,8 @@ use Rattle.reasons_text.specs.declared.side.Side.{Side}
 use Rattle.reasons_text.specs.declared.side.Side.TheVariants.{Programmes, Residents}
 
 -- The names of one side in a key, for each member: the real name, the sign, and the label. The sign separates members
--- with the same name. The label is shown if another member has the name. A missing name, sign or label is an empty
--- text.
+-- with the same name. The label is shown if the name also means another member. A missing name, sign or label is an
+-- empty text.
 pub record SideNames : Type 0 where
   pub names : List (List ℕ)
   pub signs : List (List ℕ)
@@ -62,7 +62,7 @@ HasNoNames key = side_of key ≡ no_names
 abbrev pub IsKeyless : Naming → Type 0
 IsKeyless names = (names.residents ≡ no_names) × (names.programmes ≡ no_names)
 
--- the names of a side in the key and in the docket
+-- the names of a side in the key; `docket_names` has those in the docket
 abbrev pub names_in : Naming → Side → SideNames
 names_in names Programmes = names.programmes
 names_in names Residents = names.residents
@@ -86,7 +86,7 @@ abbrev pub unless_empty : Option (List ℕ) → Option (List ℕ)
 unless_empty None = None
 unless_empty (Some text) = if length text == 0 then None else Some text
 
--- the text at this position, if there is one
+-- the text at this position; none if it is empty, or if there is no such position
 unfoldable pub text_at : List (List ℕ) → ℕ → Option (List ℕ)
 text_at texts place = unless_empty (slice_get texts place)
 
@@ -94,7 +94,7 @@ text_at texts place = unless_empty (slice_get texts place)
 unfoldable pub label_of : List ℕ → List ℕ → List ℕ
 label_of name sign = name ++ (codes " (" ++ (sign ++ codes ")"))
 
--- the name that is shown for a member: the label if another member has the name, else the real name, else the
+-- the name that is shown for a member: the label if the name also means another member, else the real name, else the
 -- docket's name
 unfoldable pub shown : Naming → Side → ℕ → List ℕ
 shown names side n =
@@ -111,14 +111,19 @@ unfoldable pub is_by_key : Option (List ℕ) → Option (List ℕ) → List ℕ 
 is_by_key None sign text = false
 is_by_key (Some name) sign text = bytes_eq name text || (bytes_eq (unwrap_or sign []) text || bytes_eq (label_of name (unwrap_or sign [])) text)
 
--- whether the text means this member of the side: it is the docket's name, the real name, the ID, or the real name
--- with the ID
-unfoldable pub means : Naming → Side → List ℕ → ℕ → Bool
-means names side text n =
-    (nat_lt n (member_count names.docket side) && bytes_eq (docket_name names.docket side n) text)
-    || is_by_key (text_at (names_in names side).names n) (text_at (names_in names side).signs n) text
+-- whether the text is the docket's name of this member of the side
+abbrev pub is_own : Contents → Side → ℕ → List ℕ → Bool
+is_own d side n text = nat_lt n (member_count d side) && bytes_eq (docket_name d side n) text
 
--- whom the text means among the first n members of a side: nobody, this member alone, or more than one
+-- whether the text means this member of the side, by the docket and a key's names: it is the docket's name, the real
+-- name, the ID, or the real name with the ID
+unfoldable pub is_meant : Contents → Side → SideNames → List ℕ → ℕ → Bool
+is_meant d side key text n = is_own d side n text || is_by_key (text_at key.names n) (text_at key.signs n) text
+
+abbrev pub means : Naming → Side → List ℕ → ℕ → Bool
+means names side text n = is_meant names.docket side (names_in names side) text n
+
+-- for which of the numbers below n the test is true: for nobody, for this one alone, or for more than one
 abbrev pub IsMeantBelow : (ℕ → Bool) → ℕ → Meant → Type 0
 IsMeantBelow test n Nobody = (k : ℕ) → k < n → test k ≡ false
 IsMeantBelow test n (One r) = (r < n) × ((test r ≡ true) × ((k : ℕ) → k < n → test k ≡ true → k ≡ r))

@@ -1,10 +1,10 @@
--- What the code keeps while it reads a key: each member's number by name, and who has each name.
-use Rattle.std.specs.Prelude.{◌≡◌, ℕ, ◌<◌, ◌==◌, true, if◌then◌else◌, unwrap_or, Option, Some, None, List, [], bytes_eq}
+-- What the code keeps while it reads a key: each member's number by name, and whom each text means.
+use Rattle.std.specs.Prelude.{◌≡◌, ℕ, ◌<◌, ◌≤◌, ◌==◌, Bool, true, if◌then◌else◌, unwrap_or, Option, Some, None, List, [], bytes_eq, length, option_map, slice_index_or}
 use Rattle.std.specs.Borrow.{Bor}
 use Rattle.std.specs.HashMap.{HashMap, get_by}
 use Rattle.docket.specs.Contents.{Contents}
-use Rattle.reasons_text.specs.Keys.{first_named, has_name}
-use Rattle.reasons_text.specs.Naming.{IsMeantBelow, SideNames, label_of, member_count, text_at}
+use Rattle.reasons_text.specs.Keys.{first_named}
+use Rattle.reasons_text.specs.Naming.{IsMeantBelow, SideNames, is_meant, label_of, member_count, text_at}
 use Rattle.reasons_text.specs.declared.names.Meant.{Meant}
 use Rattle.reasons_text.specs.declared.names.Meant.TheVariants.{Nobody, One, Several}
 use Rattle.reasons_text.specs.declared.naming.MemberNumbers.{MemberNumbers}
@@ -22,32 +22,46 @@ AreNumbersOf d side numbers = (name : List ℕ) → number_in numbers name ≡ f
 abbrev pub AreNumbers : MemberNumbers → Type 0
 AreNumbers numbers = AreNumbersOf numbers.docket.now Residents numbers.residents × AreNumbersOf numbers.docket.now Programmes numbers.programmes
 
--- who has a name once this member has the name too
+-- whom a text means once it means this member too
 abbrev pub owner_with : Meant → ℕ → Meant
 owner_with Nobody n = One n
 owner_with (One r) n = if r == n then One r else Several
 owner_with Several n = Several
 
--- who has the name, among members and rows of the side: nobody, one alone, or more than one
-pub record IsOwner (d : Contents) (side : Side) (names : List (List ℕ)) (name : List ℕ) (owner : Meant) : Type 0 where
+-- whom the text means, among members and rows of the side: nobody, one alone, or more than one
+pub record IsOwner (d : Contents) (side : Side) (read : SideNames) (text : List ℕ) (owner : Meant) : Type 0 where
   pub named : ℕ
-  pub all : (k : ℕ) → has_name d side names name k ≡ true → k < named
-  pub is : IsMeantBelow (has_name d side names name) named owner
+  pub all : (k : ℕ) → is_meant d side read text k ≡ true → k < named
+  pub is : IsMeantBelow (is_meant d side read text) named owner
 
--- who has a name, from the code's map
+-- whom a text means by the code's map; a text that isn't in the map means nobody
 abbrev pub owner_in : {S : Type 0} → HashMap (Bor (List ℕ)) Meant S → List ℕ → Meant
 owner_in owners name = unwrap_or (get_by (λ own. bytes_eq name own.now) owners) Nobody
 
-abbrev pub AreOwners : {S : Type 0} → Contents → Side → List (List ℕ) → HashMap (Bor (List ℕ)) Meant S → Type 0
-AreOwners d side names owners = (name : List ℕ) → IsOwner d side names name (owner_in owners name)
+abbrev pub AreOwners : {S : Type 0} → Contents → Side → SideNames → HashMap (Bor (List ℕ)) Meant S → Type 0
+AreOwners d side read owners = (text : List ℕ) → IsOwner d side read text (owner_in owners text)
 
--- the label for a name when these members have it
+-- the map notes this member for each text that passes a test
+abbrev pub Notes : {S : Type 0} → HashMap (Bor (List ℕ)) Meant S → HashMap (Bor (List ℕ)) Meant S → (List ℕ → Bool) → ℕ → Type 0
+Notes old new test n = (text : List ℕ) → owner_in new text ≡ (if test text then owner_with (owner_in old text) n else owner_in old text)
+
+-- the label of a member by its names in the key, or nothing if it has no name there
+abbrev pub full_label : SideNames → ℕ → List ℕ
+full_label read n = unwrap_or (option_map (λ name. label_of name (unwrap_or (text_at read.signs n) [])) (text_at read.names n)) []
+
+-- the labels of all who have names: of the docket's members, and of the key's rows
+pub record AreFull (d : Contents) (side : Side) (read : SideNames) (labels : List (List ℕ)) : Type 0 where
+  pub members : member_count d side ≤ length labels
+  pub rows : length read.names ≤ length labels
+  pub are : (n : ℕ) → n < length labels → slice_index_or labels n [] ≡ full_label read n
+
+-- the label for a name that means these: the name with its sign if they are several, else nothing
 abbrev pub label_where : Meant → List ℕ → List ℕ → List ℕ
 label_where Several name sign = label_of name sign
 label_where Nobody name sign = []
 label_where (One r) name sign = []
 
--- the label of a member, from the map of who has each name
+-- the label of a member, from the map of whom each text means
 abbrev pub label_if : (List ℕ → Meant) → Option (List ℕ) → List ℕ → List ℕ
 label_if owner None sign = []
 label_if owner (Some name) sign = label_where (owner name) name sign

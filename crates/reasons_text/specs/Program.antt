@@ -1,4 +1,4 @@
--- How the program ends, from its input and its output.
+-- With which exit status the program ends, given its words, its input and what it has written.
 use Rattle.std.specs.Prelude.{◌≡◌, ◌≢◌, ℕ, Option, Some, None, Result, List, MatchResult, is_some}
 use Rattle.std.specs.Prelude.{String}
 use Rattle.std.specs.Global.{Vec}
@@ -26,7 +26,7 @@ AppendsOrFails Wanted IsFault old new answer = MatchResult answer
     (λ _. AppendsText Wanted old new)
     (λ fault. IsFault fault × (fault ≢ Docket docket.Write → new ≡ old))
 
--- the answer over the docket of the input and the sheet of its own file within these limits
+-- the answer over the docket in the input and the sheet in a file of its own, within these limits
 pub record AnswersBeside (limits : Limits) (question : Question) (input key old new : Option (List ℕ)) (answer : Answer) : Type 0 where
   pub docket : List ℕ
   pub sheet : List ℕ
@@ -53,10 +53,11 @@ pub record AnswersQuestion (limits : Limits) (question : Question) (input old ne
 abbrev pub Serves : Limits → Option (List ℕ) → Option (List ℕ) → Option (List ℕ) → ℕ → Question → Type 0
 Serves limits input old new status question = EndsServed (AnswersQuestion limits question input old new) exit_status_of old new status
 
--- how the program ends within these limits
+-- with which status the program ends within these limits, given its words, its input, and its output before and after
 abbrev pub EndsWithin : {A E : Type 0} → Limits → Result (Vec (String A)) E → Option (List ℕ) → Option (List ℕ) → Option (List ℕ) → ℕ → Type 0
 EndsWithin limits words input old new status = EndsAs Refuses Asks (Serves limits input old new status) words old new status
 
--- how the program ends within the standard limits
+-- with which status the program ends within the standard limits, given its words, its input, and its output before
+-- and after
 abbrev pub Ends : {A E : Type 0} → Result (Vec (String A)) E → Option (List ℕ) → Option (List ℕ) → Option (List ℕ) → ℕ → Type 0
 Ends words input old new status = EndsWithin Standard words input old new status

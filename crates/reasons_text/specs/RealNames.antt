@@ -1,5 +1,5 @@
 -- The members' real names and IDs, as a key gives them to be sealed.
-use Rattle.std.specs.Prelude.{◌≡◌, ◌⊎◌, ℕ, ◌<◌, ◌+◌, ◌==◌, ◌||◌, ◌&&◌, nat_le, not, is_none, Bool, false, true, if◌then◌else◌, Option, Some, None, option_map, List, [], ◌∷◌, chars, codes, find, length, map, slice_index_or, slice_set}
+use Rattle.std.specs.Prelude.{◌≡◌, ◌⊎◌, ℕ, ◌<◌, ◌+◌, ◌==◌, ◌||◌, ◌&&◌, nat_le, nat_lt, not, is_none, Bool, false, true, if◌then◌else◌, Option, Some, None, option_map, List, [], ◌∷◌, chars, codes, find, length, map, slice_index_or, slice_set}
 use Rattle.std.specs.List.{list_any}
 use Rattle.std.specs.Option.{option_or}
 use Rattle.std.specs.Str.{is_utf8}
@@ -13,11 +13,11 @@ use Rattle.reasons_text.specs.Naming.{KeyNames, member_count}
 use Rattle.reasons_text.specs.Shown.{is_control}
 use Rattle.reasons_text.specs.declared.fault.WhyFault.TheVariants.{Docket}
 use Rattle.reasons_text.specs.declared.real_names.NamesFault.{NamesFault}
-use Rattle.reasons_text.specs.declared.real_names.NamesFault.TheVariants.{Key, Hidden}
+use Rattle.reasons_text.specs.declared.real_names.NamesFault.TheVariants.{Key, Hidden, Long}
 use Rattle.reasons_text.specs.declared.side.Side.{Side}
 use Rattle.reasons_text.specs.declared.side.Side.TheVariants.{Programmes, Residents}
 
--- whether the character is from the first of these to the last
+-- whether the character's number is from `first` to `last`
 abbrev pub is_from_to : ℕ → ℕ → ℕ → Bool
 is_from_to first last c = nat_le first c && nat_le c last
 
@@ -26,15 +26,19 @@ is_from_to first last c = nat_le first c && nat_le c last
 abbrev pub is_hidden : ℕ → Bool
 is_hidden c = is_control c || c == 1564 || is_from_to 8206 8207 c || is_from_to 8232 8238 c || is_from_to 8294 8297 c
 
--- whether the bytes are no text, or have such a character
+-- whether the bytes are not UTF-8, or have a hidden character
 unfoldable pub is_unclear : List ℕ → Bool
 is_unclear text = if is_utf8 text then list_any is_hidden (chars text) else true
+
+-- whether a name or an ID has more than 10000 bytes
+abbrev pub is_long : List ℕ → Bool
+is_long text = nat_lt 10000 (length text)
 
 -- what a row of a key tells of its member: the real name, and the ID if there is one
 abbrev pub real_fields : Fields → Fields
 real_fields row = field row 2 ∷ (if length (field row 3) == 0 then [] else field row 3 ∷ [])
 
--- whether this is the member
+-- whether the option is member n
 abbrev pub is_member : ℕ → Option ℕ → Bool
 is_member n None = false
 is_member n (Some m) = m == n
@@ -63,7 +67,7 @@ pub record Real : Type 0 where
   pub programmes : List (Option Fields)
   pub residents : List (Option Fields)
 
--- these are the first members' names in the rows
+-- for each member of a side the real name and the ID in the first row that names the member
 pub record AreNamed (d : Contents) (side : Side) (rows : List Fields) (names : List (Option Fields)) : Type 0 where
   pub each : length names ≡ member_count d side
   pub are : (n : ℕ) → n < member_count d side → slice_index_or names n None ≡ real_name d side rows n
@@ -73,11 +77,18 @@ pub record AreRealIn (d : Contents) (rows : List Fields) (real : Real) : Type 0 
   pub programmes : AreNamed d Programmes rows real.programmes
   pub residents : AreNamed d Residents rows real.residents
 
--- the fault of a row of a key whose names are to be sealed: it is bad, or its name or its ID is unclear
-abbrev pub real_fault : Contents → KeyNames → ℕ → Fields → Option NamesFault
-real_fault d key place row = option_or (option_map Key (row_fault d key place row)) (if is_unclear (field row 2) || is_unclear (field row 3) then Some (Hidden place) else None)
+-- why the name or the ID in a row can't be sealed: one of them is unclear, or too long
+abbrev pub text_fault : ℕ → Fields → Option NamesFault
+text_fault place row =
+    if is_unclear (field row 2) || is_unclear (field row 3) then Some (Hidden place)
+    else if is_long (field row 2) || is_long (field row 3) then Some (Long place)
+    else None
 
--- the first such fault of these rows, with the number of rows before them
+-- the fault of a row of a key whose names are to be sealed: it is bad, or its name or its ID can't be sealed
+abbrev pub real_fault : Contents → KeyNames → ℕ → Fields → Option NamesFault
+real_fault d key place row = option_or (option_map Key (row_fault d key place row)) (text_fault place row)
+
+-- the first such fault of these rows, if the key has `before` rows before them
 unfoldable pub real_fault_from : Contents → KeyNames → ℕ → List Fields → Option NamesFault
 real_fault_from d key before [] = None
 real_fault_from d key before (row ∷ rest) = option_or (real_fault d key (before + 1) row) (real_fault_from d (added d key row) (before + 1) rest)
@@ -93,7 +104,7 @@ pub record IsRealOf (d : Contents) (bytes : List ℕ) (real : Real) : Type 0 whe
 abbrev pub IsOutOfMemory : NamesFault → Type 0
 IsOutOfMemory fault = fault ≡ Key (Docket docket.Memory)
 
--- the fault is the first of the key's rows
+-- the fault is the first one in the rows of the key
 pub record IsFirstOf (d : Contents) (bytes : List ℕ) (fault : NamesFault) : Type 0 where
   pub rows : List Fields
   pub are_rows : AreKeyRows bytes rows
@@ -112,16 +123,16 @@ abbrev pub AreReal : Contents → Option (List ℕ) → Real → Type 0
 AreReal d None real = real ≡ nobody_named
 AreReal d (Some bytes) real = IsRealOf d bytes real
 
--- a kept name
+-- the fields of a kept name, if there is one
 abbrev pub real_in : Option Row → Option Fields
 real_in kept = option_map fields_of kept
 
--- names with one more member's, unless the member has one
+-- the names with these fields for this member, unless the member has a name already
 abbrev pub with_first : List (Option Fields) → Option ℕ → Fields → List (Option Fields)
 with_first names None fields = names
 with_first names (Some m) fields = if is_none (slice_index_or names m None) then slice_set names m (Some fields) else names
 
--- the names of both sides with that of one more row
+-- the names of both sides with that in one more row, unless its member has a name already
 abbrev pub with_row : Contents → Real → Fields → Real
 with_row d real row = record {
   programmes = with_first real.programmes (named_by d Programmes row) (real_fields row);

@@ -36,7 +36,7 @@ pub record IsTextOn (c : CaseParts) (names : Naming) (without_ranks : Bool) (r :
   pub told : RecordAnswers c r
   pub text_is : text ≡ text_on names without_ranks r (programme_of c.sheet r) told.programmes told.reasons
 
--- the line about programme p
+-- the text is the line for resident r about programme p
 pub record IsLineOn (c : CaseParts) (names : Naming) (without_ranks : Bool) (r p : ℕ) (text : List ℕ) : Type 0 where
   pub reason : Why
   pub first : IsAnswer c r p reason

@@ -34,7 +34,7 @@ struct Manner<'a> {
     without_ranks: bool,
 }
 
-// Whom the question is about, by the members' numbers.
+// Whom the question is about: everybody, a resident, or a resident and a programme, by their numbers.
 #[derive(Clone, Copy)]
 enum Told {
     All,
@@ -42,7 +42,7 @@ enum Told {
     Pair(ResidentNo, ProgrammeNo),
 }
 
-// Adds one line for each of these programmes. The reason in the line about programme `i` is reason `i`.
+// Adds one line for each of these programmes. Reason `i` is the one in the line about programme `i`.
 fn push_each(
     alloc: Global,
     text: &mut String,
@@ -90,7 +90,7 @@ fn push_lines(
     push_each(alloc, text, manner, resident, list, reasons)
 }
 
-// Adds one row for each of these programmes. The reason in the row about programme `i` is reason `i`.
+// Adds one row for each of these programmes. Reason `i` is the one in the row about programme `i`.
 fn push_rows<W: Write>(
     rows: &mut RowWriter<'_, W>,
     manner: &Manner,
@@ -181,8 +181,7 @@ fn write_table<W: Write>(
     Ok(())
 }
 
-// The row with the columns' names, and then all residents' rows. The text is made in memory, so the only fault is out
-// of memory.
+// The row with the columns' names, and then all residents' rows. The text is made in memory, so only memory can fail.
 fn table_of(alloc: Global, case: &Case, manner: &Manner) -> Result<Vec<u8>, AllocError>
     ensures { IfOk result (λ text.
         IsTable case.now (naming_of manner.now.names) manner.now.without_ranks text.items) }
@@ -194,7 +193,7 @@ fn table_of(alloc: Global, case: &Case, manner: &Manner) -> Result<Vec<u8>, Allo
     }
 }
 
-// The lines about a resident.
+// The lines that answer a question about a resident.
 fn lines_of(
     alloc: Global,
     case: &Case,
@@ -210,7 +209,7 @@ fn lines_of(
     Ok(text.into_bytes())
 }
 
-// The line about a resident and a programme.
+// The line that answers a question about a resident and a programme.
 fn line_of(
     alloc: Global,
     case: &Case,
@@ -237,7 +236,7 @@ fn line_of(
     Ok(text.into_bytes())
 }
 
-// The text of the answer.
+// The text that answers the question, once its names are numbers.
 fn told_text(alloc: Global, case: &Case, manner: &Manner, told: Told) -> Result<Vec<u8>, AllocError>
     requires { IsTold case.now.docket.instance told }
     ensures { IfOk result (λ text.
@@ -265,7 +264,7 @@ fn named(alloc: Global, names: &Names, side: Side, name: &str) -> Result<u32, Wh
     }
 }
 
-// Whom the question is about.
+// Whom the question is about, by the members' numbers; or the fault of a name in it.
 fn told_of(alloc: Global, names: &Names, asked: Asked) -> Result<Told, WhyFault>
     ensures member { IfOk result (IsTold names.now.docket.now.instance) }
     ensures asks { IfOk result (Asks (naming_of names.now) asked.entry) }

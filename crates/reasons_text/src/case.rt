@@ -3,12 +3,12 @@ ghost use Rattle.std.specs.Prelude.{◌≡◌, [], IfErr, IfOk, Some};
 ghost use Rattle.docket.specs.Parts.{IsInFilesWithLists};
 ghost use Rattle.docket.specs.WithLists.{IsReadWithin};
 ghost use Rattle.match_model.specs.Instance.{IsProgramme, IsResident, list_at};
-ghost use Rattle.match_model.specs.Placement.{programme_of};
-ghost use Rattle.match_reasons.specs.Reason.{IsTaken};
+ghost use Rattle.match_model.specs.Placement.{member_count, programme_of};
+ghost use Rattle.match_reasons.specs.Reason.{AreTaken, IsTaken};
 ghost use Rattle.reasons_text.specs.Faults.{IsCaseFaultWithin, IsOfNoCase};
 ghost use Rattle.reasons_text.specs.Files as spec;
 ghost use Rattle.reasons_text.specs.Files.{IsFilesCaseFault};
-ghost use Rattle.reasons_text.specs.Answers.{AreAnswers, AreOfRecord, AreTaken, IsAnswer, IsCase, WasRead, case_of};
+ghost use Rattle.reasons_text.specs.Answers.{AreAnswers, AreOfRecord, IsAnswer, IsCase, WasRead, case_of};
 
 use crate::answers::Answers;
 use crate::fault::WhyFault;
@@ -17,14 +17,14 @@ use docket::{
     read_parts_with_lists,
 };
 use match_model::{Assignment, Limits, ProgrammeNo, ResidentNo, WrittenLists};
-use match_reasons::{Listed, Taken, Why, places_taken, why};
+use match_reasons::{Listed, Taken, Why, all_places_taken, places_taken, why};
 use std::alloc::{AllocError, Global};
 use std::io::Read;
 use std::marker::Model;
 use std::random::RandomSource;
 
-/// A docket with a sheet, and the members' lists as they were written. For some of the first programmes, the case also
-/// has how their places are taken.
+/// A docket with a sheet, and the members' lists as they were written. For the first programmes, up to some number,
+/// the case also has how their places are taken.
 pub struct Case {
     docket: Docket,
     lists: WrittenLists,
@@ -54,23 +54,7 @@ impl Drop for Case {
     }
 }
 
-// How the places of each programme are taken.
-fn all_taken(
-    alloc: Global,
-    programmes: u32,
-    listed: &Listed,
-    sheet: &Assignment,
-) -> Result<Vec<Taken>, AllocError>
-    ensures { IfOk result (λ takens. AreTaken listed.now.written sheet.now takens.items) }
-{
-    let mut takens = Vec::new(alloc);
-    for p in 0..programmes {
-        takens.push(places_taken(listed, sheet, ProgrammeNo(p)))?;
-    }
-    Ok(takens)
-}
-
-// How a programme's places are taken. If this was counted before, it is only looked up.
+// How a programme's places are taken: looked up, if it was counted before, else counted now.
 fn taken_of(listed: &Listed, sheet: &Assignment, takens: &[Taken], programme: ProgrammeNo) -> Taken
     requires { AreTaken listed.now.written sheet.now takens.now }
     ensures { IsTaken
@@ -102,6 +86,21 @@ fn reason_from(
     why(&listed, sheet, &taken, resident, programme)
 }
 
+// How many residents the sheet matches with a programme.
+fn filled_from(
+    docket: &Docket,
+    sheet: &Assignment,
+    lists: &WrittenLists,
+    takens: &[Taken],
+    programme: ProgrammeNo,
+) -> u32
+    requires { IsCase (case_of docket.now sheet.now lists.now takens.now) }
+    ensures { result ≡ member_count sheet.now programme }
+{
+    let listed = Listed::new(docket.instance(), lists);
+    taken_of(&listed, sheet, takens, programme).members
+}
+
 // The answers for a resident about each programme on the resident's list.
 fn answers_from(
     alloc: Global,
@@ -118,7 +117,8 @@ fn answers_from(
     ensures record { IfOk result (λ answers.
         AreOfRecord docket.now lists.now resident answers.programmes.items) }
 {
-    // For the proof alone: the docket has a name for each member, and a sheet of its own members.
+    // Only the proof needs this call: by its clause the docket has a name for each member, and its sheet names only
+    // members.
     let _inst = docket.instance();
     let mut programmes = Vec::new(alloc);
     let mut reasons = Vec::new(alloc);
@@ -135,7 +135,7 @@ fn answers_from(
     })
 }
 
-// A fault of the files, with its file. Memory that ran out has no file.
+// A fault of the files, with its file. Running out of memory belongs to no file.
 fn in_its_file(there: FileFault) -> WhyFault
     ensures { result ≡ spec.in_its_file there }
 {
@@ -149,9 +149,10 @@ fn in_its_file(there: FileFault) -> WhyFault
 }
 
 impl Case {
-    /// Reads a docket that has a sheet, with its lists, within these limits. If all residents get answers, the call counts
-    /// at once how each programme's places are taken.
-    // Its frame holds the reader's buffers: inlined they would stand on the stack of all that comes after.
+    /// Reads a docket that has a sheet, with its lists, within these limits. If all residents will get answers, the
+    /// call also counts how each programme's places are taken.
+    // This function isn't inlined: its frame has the reader's buffers, which would stand on the stack of all that
+    // comes after.
     #[inline(never)]
     pub fn read_within<R: Read + Drop, H: RandomSource>(
         rt: &H,
@@ -218,7 +219,7 @@ impl Case {
             0
         };
         let listed = Listed::new(docket.instance(), &lists);
-        let takens = all_taken(alloc, programmes, &listed, sheet)?;
+        let takens = all_places_taken(alloc, &listed, sheet, programmes)?;
         Ok(Case {
             docket,
             lists,
@@ -255,9 +256,17 @@ impl Case {
         requires { IsResident self.now.docket.instance resident }
         ensures { result ≡ programme_of self.now.sheet resident }
     {
-        // For the proof alone: the sheet has an entry for each resident.
+        // Only the proof needs this call: by its clause the sheet has an entry for each resident.
         let _inst = self.docket.instance();
         self.sheet().get(resident)
+    }
+
+    /// How many residents the sheet matches with a programme.
+    pub fn filled(&self, programme: ProgrammeNo) -> u32
+        ensures { result ≡ member_count self.now.sheet programme }
+    {
+        let takens = self.takens.as_slice();
+        filled_from(&self.docket, self.sheet(), &self.lists, takens, programme)
     }
 
     /// The answer for a resident about one programme: the first of the possible answers that is true.
@@ -284,7 +293,7 @@ impl Case {
         ensures first { IfOk result (λ answers.
             AreAnswers self.now resident answers.programmes.items answers.reasons.items) }
 
-        // The names of the answers' programmes are the fields of the resident's R record, whatever bytes were read.
+        // The programmes' names are the fields of the resident's R record, whatever bytes were read.
         ensures record { IfOk result (λ answers.
             AreOfRecord self.now.docket self.now.written resident answers.programmes.items) }
     {

@@ -36,7 +36,7 @@ impl Marks {
         byte == b'\n' && !self.is_quoted && has_mark
     }
 
-    // Counts the next byte.
+    // Counts the next byte, if it is a mark outside quotes.
     #[tactic(auto, unfolding(crate::specs::Delimiter::counted))]
     fn count(&mut self, byte: u8)
         ensures { self.new ≡ spec.counted self.old byte }
@@ -52,7 +52,7 @@ impl Marks {
         }
     }
 
-    // The mark with the highest count.
+    // The mark with the highest count. A comma wins against an equal count, and a tab against as many semicolons.
     fn chosen(&self) -> u8
         ensures { result ≡ spec.chosen self.now }
     {
@@ -66,7 +66,7 @@ impl Marks {
     }
 }
 
-// The counts of the first line that has a mark.
+// The counts of the first line that has a mark outside quotes.
 fn marks_of(bytes: &[u8]) -> Marks
     ensures { result ≡ spec.marks_of spec.no_marks bytes.now }
 {

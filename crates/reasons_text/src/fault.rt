@@ -33,19 +33,20 @@ pub enum WhyFault {
         /// The number of the record, from 1.
         place: u64,
     },
-    /// No resident has the name of the question. The text is the message for the user.
+    /// No resident has a name of the question. The text is the message for the user.
     #[error("{0}")]
     NoResident(String),
-    /// No programme has the name of the question. The text is the message for the user.
+    /// No programme has a name of the question. The text is the message for the user.
     #[error("{0}")]
     NoProgramme(String),
-    /// More than one resident has the name of the question. The text has the labels of these members.
+    /// More than one resident has a name of the question. The text has the labels of these residents.
     #[error("{0}")]
     ManyResidents(String),
-    /// More than one programme has the name of the question. The text has the labels of these members.
+    /// More than one programme has a name of the question. The text has the labels of these
+    /// programmes.
     #[error("{0}")]
     ManyProgrammes(String),
-    /// A record has this fault. The fault says the record's number in this file.
+    /// A record of a file has this fault. The fault has the record's number in this file.
     #[error("{fault}")]
     Records {
         /// The file of the record: the docket's file or the sheet's file.
@@ -59,7 +60,7 @@ pub enum WhyFault {
 }
 
 impl WhyFault {
-    // The fault as a text. The text names these limits.
+    // The fault as a text, which names these limits.
     pub(crate) fn within(&self, limits: Limits) -> FaultWithin<'_> {
         FaultWithin {
             fault: self,
@@ -67,7 +68,7 @@ impl WhyFault {
         }
     }
 
-    // The file with the fault: the docket's, the sheet's, or none.
+    // The file with the fault, if a file has it: the docket's or the sheet's.
     pub(crate) fn file(&self) -> Option<Part> {
         match self {
             WhyFault::Records { file, .. } => Some(*file),

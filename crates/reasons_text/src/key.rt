@@ -21,16 +21,16 @@ use records::{ReadFailed, field, next_row, reader_over};
 use std::alloc::{AllocError, Global};
 use std::hash::RandomState;
 
-/// The names that the key has for one side's members, ordered by the members' numbers. After them come the names in
-/// rows whose member is not in the docket. A member without a row has an empty name and an empty sign. A member whose
-/// name nobody else has gets an empty label.
+/// The names that the key has for one side's members, in the order of the members' numbers. After them come the names
+/// in those rows whose member the docket lacks. A member without a row has an empty name and an empty sign. A member
+/// whose name means nobody else has an empty label.
 #[derive(Drop)]
 pub(crate) struct SideKey {
     /// The real names.
     pub(crate) names: Vec<String>,
-    /// The sign, which tells members of the same name apart: the ID, or the docket's name if there is no ID.
+    /// The signs, which tell members of the same name apart: the ID, or without one the docket's name.
     pub(crate) signs: Vec<String>,
-    /// The label `NAME (ID)`, for each member whose name another member has too; an empty text for all others.
+    /// The label `NAME (ID)` of each member whose name also means another member. For all others it is empty.
     pub(crate) labels: Vec<String>,
 }
 
@@ -105,7 +105,7 @@ pub(crate) fn side_of_row(row: &ByteRecord) -> Option<Side>
     }
 }
 
-// Whether all fields before were empty, and this text is empty too.
+// Whether the fields before were all empty, and this text is empty, too.
 fn both_blank(blank: bool, text: &[u8]) -> bool
     ensures { result ≡ (blank && length text.now == 0) }
 {
@@ -134,7 +134,7 @@ fn put(texts: &mut Vec<String>, place: usize, text: String)
 }
 
 impl SideKey {
-    // A side without any names.
+    // A side without members.
     fn none(alloc: Global) -> SideKey
         ensures { HasNoNames result }
     {
@@ -217,7 +217,7 @@ impl SideKey {
     }
 }
 
-// Bytes in memory can be read to their end, unless memory runs out.
+// Bytes in memory can always be read, so a failed reading of them means that memory ran out.
 impl From<ReadFailed> for WhyFault {
     ghost use Rattle.docket.specs.declared.fault.DocketFault.TheVariants as docket_fault;
     ghost use Rattle.reasons_text.specs.declared.fault.WhyFault.TheVariants.{Docket};
@@ -240,7 +240,7 @@ impl Key {
         }
     }
 
-    /// A key in which all members of the docket are without names.
+    /// A key in which no member of the docket has a name yet.
     pub(crate) fn unnamed(alloc: Global, docket: &Docket) -> Result<Key, AllocError>
         ensures { IfOk result (λ key. both_of key ≡ unnamed docket.now) }
     {

@@ -1,10 +1,9 @@
-//! Which members are shown with a label: those whose name another member has too.
-ghost use Rattle.std.specs.Prelude.{◌≡◌, ◌≤◌, if◌then◌else◌, IfOk, List, OnOk, length, map, option_copied, string_bytes, ℕ};
-ghost use Rattle.reasons_text.specs.Keys.{AreLabels, has_name, is_this};
-ghost use Rattle.reasons_text.specs.Keys.{own_name as own_name_in};
-ghost use Rattle.reasons_text.specs.Naming.{member_count as members_of, side_of};
+//! Which members are shown with a label: those whose name also means another member.
+ghost use Rattle.std.specs.Prelude.{◌≡◌, ◌≤◌, [], IfOk, OnOk, bytes_eq, length, map, string_bytes, unwrap_or};
+ghost use Rattle.reasons_text.specs.Keys.{AreLabels};
+ghost use Rattle.reasons_text.specs.Naming.{is_by_key, is_meant, is_own, member_count as members_of, side_of, text_at};
 ghost use Rattle.reasons_text.specs.Numbers as spec;
-ghost use Rattle.reasons_text.specs.Numbers.{AreOwners, owner_in};
+ghost use Rattle.reasons_text.specs.Numbers.{AreFull, AreOwners, Notes, owner_in};
 
 use crate::key::{SideKey, label_text, text_in};
 use crate::names::Meant;
@@ -14,11 +13,11 @@ use std::alloc::{AllocError, Global};
 use std::collections::HashMap;
 use std::hash::RandomState;
 
-// For each name, who has this name: nobody, one member or several. A row of the key whose member is not in the docket
-// counts as a member.
+// For each text, whom it means: nobody, one member or several. A row of the key whose member the docket lacks counts
+// as a member.
 type Owners<'a> = HashMap<&'a str, Meant, RandomState>;
 
-// Who has a name, if this member has the name besides those noted before.
+// Whom a text means that means this member, and those for whom it was noted before.
 fn owner_with(owner: Meant, number: usize) -> Meant
     ensures { result ≡ spec.owner_with owner number }
 {
@@ -29,55 +28,84 @@ fn owner_with(owner: Meant, number: usize) -> Meant
     }
 }
 
-// Who has this name, by the map.
-fn owner(owners: &Owners, name: &str) -> Meant
-    ensures { result ≡ owner_in owners.now name.now }
+// Whom this text means by the map.
+fn owner(owners: &Owners, text: &str) -> Meant
+    ensures { result ≡ owner_in owners.now text.now }
 {
-    match owners.get(name) {
+    match owners.get(text) {
         Some(owner) => *owner,
         None => Meant::Nobody,
     }
 }
 
-// Notes that a member has this name. If the name is none, the map stays as it is.
-fn note<'a>(owners: &mut Owners<'a>, name: Option<&'a str>, number: usize) -> Result<(), AllocError>
-    ensures { OnOk result ((text : List ℕ)
-        → owner_in owners.new text ≡ (if is_this (option_copied name.entry) text
-        then spec.owner_with (owner_in owners.old text) number else owner_in owners.old text)) }
+// Notes that a text means this member.
+fn note<'a>(owners: &mut Owners<'a>, text: &'a str, number: usize) -> Result<(), AllocError>
+    ensures { OnOk result (Notes owners.old owners.new (bytes_eq text.entry.now) number) }
 {
-    let Some(name) = name else {
-        return Ok(());
-    };
-    let known = owner(owners, name);
-    owners.insert(name, owner_with(known, number))?;
+    let known = owner(owners, text);
+    owners.insert(text, owner_with(known, number))?;
     Ok(())
 }
 
-// The docket's name of the member with this number, if the docket has such a member.
-fn own_name(docket: &Docket, side: Side, number: usize) -> Option<&str>
-    ensures { option_copied result ≡ own_name_in docket.now side number }
-{
-    if number < member_count(docket, side) as usize {
-        Some(docket_name(docket, side, number as u32))
-    } else {
-        None
-    }
-}
-
-// Notes both names of a member: the docket's name, and the name in the key's row.
-fn note_both<'a>(
+// Notes the docket's name of the member with this number, if the docket has such a member.
+fn note_own<'a>(
     owners: &mut Owners<'a>,
     docket: &'a Docket,
     side: Side,
-    names: &'a [String],
     number: usize,
 ) -> Result<(), AllocError>
-    ensures { OnOk result ((text : List ℕ) → owner_in owners.new text
-        ≡ (if has_name docket.entry.now side (map string_bytes names.entry.now) text number
-        then spec.owner_with (owner_in owners.old text) number else owner_in owners.old text)) }
+    ensures { OnOk result
+        (Notes owners.old owners.new (is_own docket.entry.now side number) number) }
 {
-    note(owners, own_name(docket, side, number), number)?;
-    note(owners, text_in(names, number), number)
+    if number < member_count(docket, side) as usize {
+        note(owners, docket_name(docket, side, number as u32), number)
+    } else {
+        Ok(())
+    }
+}
+
+// The sign of a member, or an empty text if the key gives the member none.
+fn sign_of(key: &SideKey, place: usize) -> &str
+    ensures { result.now ≡ unwrap_or (text_at (side_of key.now).signs place) [] }
+{
+    text_in(key.signs.as_slice(), place).unwrap_or("")
+}
+
+// Notes the name, the sign and the label that the key gives a member, if it has a row of the member.
+fn note_row<'a>(
+    owners: &mut Owners<'a>,
+    key: &'a SideKey,
+    label: &'a str,
+    number: usize,
+) -> Result<(), AllocError>
+    requires { label.now ≡ spec.full_label (side_of key.now) number }
+    ensures { OnOk result (Notes owners.old owners.new
+        (is_by_key (text_at (side_of key.entry.now).names number)
+        (text_at (side_of key.entry.now).signs number)) number) }
+{
+    let Some(name) = text_in(key.names.as_slice(), number) else {
+        return Ok(());
+    };
+    note(owners, name, number)?;
+    note(owners, sign_of(key, number), number)?;
+    note(owners, label, number)
+}
+
+// Notes each text that means a member, for all members.
+fn note_all<'a>(
+    owners: &mut Owners<'a>,
+    docket: &'a Docket,
+    side: Side,
+    key: &'a SideKey,
+    label: &'a str,
+    number: usize,
+) -> Result<(), AllocError>
+    requires { label.now ≡ spec.full_label (side_of key.now) number }
+    ensures { OnOk result (Notes owners.old owners.new
+        (λ text. is_meant docket.entry.now side (side_of key.entry.now) text number) number) }
+{
+    note_own(owners, docket, side, number)?;
+    note_row(owners, key, label, number)
 }
 
 // The number of members on a side that may have names: those of the docket, and those whom only the key has.
@@ -89,24 +117,62 @@ fn named(docket: &Docket, side: Side, names: &[String]) -> usize
     members.max(names.len())
 }
 
-// The map that says for each name of a side who has this name.
+// The label of a member, or an empty text if the key gives the member no name.
+fn full_label(alloc: Global, key: &SideKey, place: usize) -> Result<String, AllocError>
+    ensures { IfOk result (λ label.
+        string_bytes label ≡ spec.full_label (side_of key.now) place) }
+{
+    let Some(name) = text_in(key.names.as_slice(), place) else {
+        return Ok(String::new(alloc));
+    };
+    label_text(alloc, name, sign_of(key, place))
+}
+
+// The labels of all who may have names.
+fn full_labels(
+    alloc: Global,
+    docket: &Docket,
+    side: Side,
+    key: &SideKey,
+) -> Result<Vec<String>, AllocError>
+    ensures { IfOk result (λ labels.
+        AreFull docket.now side (side_of key.now) (map string_bytes labels.items)) }
+{
+    let mut labels = Vec::new(alloc);
+    for number in 0..named(docket, side, key.names.as_slice()) {
+        let label = full_label(alloc, key, number)?;
+        labels.push(label)?;
+    }
+    Ok(labels)
+}
+
+// The map that says for each text whom of a side it means.
 fn owners<'a>(
     alloc: Global,
     keys: RandomState,
     docket: &'a Docket,
     side: Side,
-    names: &'a [String],
+    key: &'a SideKey,
+    labels: &'a [String],
 ) -> Result<Owners<'a>, AllocError>
-    ensures { IfOk result (AreOwners docket.entry.now side (map string_bytes names.entry.now)) }
+    requires { AreFull docket.now side (side_of key.now) (map string_bytes labels.now) }
+    ensures { IfOk result (AreOwners docket.entry.now side (side_of key.entry.now)) }
 {
     let mut owners = HashMap::with_hasher(alloc, keys);
-    for number in 0..named(docket, side, names) {
-        note_both(&mut owners, docket, side, names, number)?;
+    for number in 0..labels.len() {
+        note_all(
+            &mut owners,
+            docket,
+            side,
+            key,
+            labels[number].as_str(),
+            number,
+        )?;
     }
     Ok(owners)
 }
 
-// The label of a member if another member has the same name, else an empty text.
+// The label of a member if its name also means another member, else an empty text.
 fn label_if(
     alloc: Global,
     owners: &Owners,
@@ -121,15 +187,12 @@ fn label_if(
         return Ok(String::new(alloc));
     };
     match owner(owners, name) {
-        Meant::Several => {
-            let sign = text_in(key.signs.as_slice(), place).unwrap_or("");
-            label_text(alloc, name, sign)
-        }
+        Meant::Several => full_label(alloc, key, place),
         Meant::One(_) | Meant::Nobody => Ok(String::new(alloc)),
     }
 }
 
-/// The labels of the members of a side. A label is empty if no other member has the same name.
+/// The labels of the members of a side. A label is empty if the member's name means no other member.
 pub(crate) fn labels(
     alloc: Global,
     keys: RandomState,
@@ -140,7 +203,8 @@ pub(crate) fn labels(
     ensures { IfOk result (λ labels.
         AreLabels docket.now side (side_of key.now) (map string_bytes labels.items)) }
 {
-    let owners = owners(alloc, keys, docket, side, key.names.as_slice())?;
+    let full = full_labels(alloc, docket, side, key)?;
+    let owners = owners(alloc, keys, docket, side, key, full.as_slice())?;
     let mut labels = Vec::new(alloc);
     for number in 0..member_count(docket, side) {
         let label = label_if(alloc, &owners, key, number)?;

@@ -38,7 +38,7 @@ Examples: residency-why --sheet sheet.csv resident-250 < examples/market.csv
           residency-why --sheet sheet.csv --key key.csv \"Ewa Kowalska\" --without-ranks < docket.csv
           residency-why --sheet sheet.csv --all < docket.csv > answers.csv";
 
-// The resident who asks.
+// The word for the resident who asks.
 fn resident_argument<'a>(alloc: Global) -> Arg<'a>
     ensures rule { rule_of result ≡ word_rule (codes "resident") }
     ensures own { result.global ≡ false }
@@ -48,7 +48,7 @@ fn resident_argument<'a>(alloc: Global) -> Arg<'a>
         .help("The resident who asks")
 }
 
-// The programme that is asked about.
+// The word for the programme that is asked about.
 fn programme_argument<'a>(alloc: Global) -> Arg<'a>
     ensures rule { rule_of result ≡ word_rule (codes "programme") }
     ensures own { result.global ≡ false }
@@ -80,7 +80,7 @@ fn without_ranks_option<'a>(alloc: Global) -> Arg<'a>
         .action(ArgAction::SetTrue)
 }
 
-// The file with the real names.
+// The option for the file with the real names.
 fn key_option<'a>(alloc: Global) -> Arg<'a>
     ensures rule { rule_of result ≡ value_rule (codes "key") }
     ensures own { result.global ≡ false }
@@ -90,7 +90,7 @@ fn key_option<'a>(alloc: Global) -> Arg<'a>
     )
 }
 
-// The file with the sheet, if the sheet is not in the docket.
+// The option for the file with the sheet, if the sheet is not in the docket.
 fn sheet_option<'a>(alloc: Global) -> Arg<'a>
     ensures rule { rule_of result ≡ value_rule (codes "sheet") }
     ensures own { result.global ≡ false }
@@ -144,7 +144,8 @@ fn matches_of<'a, S: AsStr>(
     command.try_get_matches_from_mut(words)
 }
 
-// Whom the command line's words ask about. None if they ask about nobody, or about one resident and about all.
+// Whom the command line's words ask about. None if they ask about nobody, or both about a resident and about
+// all.
 fn asked<'a>(matches: &ArgMatches<'a>) -> Option<Asked<'a>>
     ensures all { IfSome result (λ asked. IsFlagged (codes "all") (rows_of (found_of matches.now))
         → asked ≡ Asked.All) }
@@ -166,7 +167,7 @@ fn asked<'a>(matches: &ArgMatches<'a>) -> Option<Asked<'a>>
     }
 }
 
-// The message for words that ask about nobody, or about one resident and about all.
+// The message for words that ask about nobody, or both about a resident and about all.
 fn nobody_asked(command: &mut Command, is_all: bool) -> LineFault
     ensures { IsErrorOf (λ kind. (kind ≡ ErrorKind.ArgumentConflict)
         ⊎ (kind ≡ ErrorKind.MissingRequiredArgument)) result }
@@ -189,7 +190,7 @@ fn nobody_asked(command: &mut Command, is_all: bool) -> LineFault
 }
 
 /// The question that the command line's words ask. The words are those after the program's own name.
-// Inlined, its frame would stand on the stack of all that the program does afterwards.
+// This function isn't inlined: its frame would stand on the stack of all that the program does afterwards.
 #[inline(never)]
 pub fn read_line<'a, S: AsStr>(alloc: Global, words: &'a [S]) -> Result<Question<'a>, LineFault>
     ensures question { IfOk result (Asks (map S.text words.entry.now)) }

@@ -21,15 +21,15 @@ pub(crate) enum Meant {
     Several,
 }
 
-/// The members' names as answers show them: the key's name of a member, or the docket's name if the key has none. If
-/// another member has the same name, the label is shown.
+/// The members' names as answers show them: the key's name of a member, or the docket's name if the key has none. If the
+/// name also means another member, the label is shown.
 #[derive(Clone, Copy)]
 pub(crate) struct Names<'a> {
     pub(crate) docket: &'a Docket,
     pub(crate) key: &'a Key,
 }
 
-// Whom a text means, if the text means this member and also the members found before.
+// Whom a text means that means this member, and the members found before.
 fn also(meant: Meant, number: usize) -> Meant
     ensures { result ≡ also_of meant number }
 {
@@ -105,8 +105,8 @@ impl Names<'_> {
         resident.0 < inst.residents() && inst.resident_withdrawn(resident)
     }
 
-    /// The name in a list of members of the same name: the label, or the docket's name if the key has no row for the
-    /// member.
+    /// How a member is shown among members of the same name: by the label, or by the docket's name if the key has no
+    /// row for the member.
     pub(crate) fn label(
         &self,
         alloc: Global,
@@ -124,9 +124,8 @@ impl Names<'_> {
         label_text(alloc, name, sign)
     }
 
-    /// Whether a text means a member: the text is the docket's name, the real name, the ID, or the label of this
-    /// member.
-    #[tactic(auto, unfolding(crate::specs::Naming::means, crate::specs::Naming::is_by_key))]
+    /// Whether a text means a member: it is the member's name in the docket, its real name, its ID or its label.
+    #[tactic(auto, unfolding(crate::specs::Naming::is_meant, crate::specs::Naming::is_by_key))]
     pub(crate) fn means(
         &self,
         alloc: Global,

@@ -11,11 +11,11 @@ use std::alloc::{AllocError, Global};
 use std::collections::HashMap;
 use std::hash::RandomState;
 
-// For each name of a docket, the number of the member with this name. The names are hashed with random keys, as in a
-// docket.
+// For each name of a docket, the number of the first member of a side with this name. The names are hashed with
+// random keys, as in a docket.
 type Numbers<'a> = HashMap<&'a [u8], u32, RandomState>;
 
-/// For each name on both sides of a docket, the number of the member with this name.
+/// For both sides of a docket, the number of the first member with each name.
 #[derive(Drop)]
 pub(crate) struct MemberNumbers<'a> {
     /// The docket.
@@ -43,7 +43,7 @@ fn put_first<'a>(numbers: &mut Numbers<'a>, name: &'a [u8], number: u32) -> Resu
     Ok(())
 }
 
-// The number of the member with each name, for one side of a docket.
+// For each name on one side of a docket, the number of the first member with this name.
 fn numbers_of<'a>(
     alloc: Global,
     keys: RandomState,
@@ -61,7 +61,7 @@ fn numbers_of<'a>(
 }
 
 impl<'a> MemberNumbers<'a> {
-    /// The number of the member with each name, for both sides of a docket.
+    /// For each name on both sides of a docket, the number of the first member with this name.
     pub(crate) fn of(
         alloc: Global,
         keys: RandomState,

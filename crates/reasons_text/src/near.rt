@@ -18,13 +18,13 @@ const MOST_MEANT: usize = 10;
 // The greatest length in bytes of a name for which similar names are searched.
 const MOST_ASKED: usize = 64;
 
-// How many edits may separate a similar name from the name asked for: two, or a third of the letters asked for if that
-// is more, but fewer than all these letters.
+// How many edits may separate a similar name from the name asked for: a third of the letters asked for, but at least
+// two, and always fewer than all these letters.
 fn reach(letters: usize) -> usize {
     (letters / 3).max(2).min(letters.saturating_sub(1))
 }
 
-// How many edits separate a name from the name asked for, or none if the two names are not similar.
+// How many edits separate a name from the name asked for, or none if the names are not similar.
 fn edits(alloc: Global, asked: &str, name: &str) -> Result<Option<usize>, AllocError> {
     if asked.len() > MOST_ASKED {
         return Ok(None);
@@ -38,7 +38,8 @@ fn edits(alloc: Global, asked: &str, name: &str) -> Result<Option<usize>, AllocE
     Ok(if edits <= reach { Some(edits) } else { None })
 }
 
-// How many edits separate a member's real or shown name from the name asked for, or none if neither name is similar.
+// How many edits separate a member's real or shown name from the name asked for: the fewer of the two, or none if
+// neither is similar.
 fn edits_of(
     alloc: Global,
     names: &Names,
@@ -60,7 +61,7 @@ fn edits_of(
     })
 }
 
-// Adds a similar name to the question `is it ..?`.
+// Adds a similar name to the question `did you mean ..?`.
 fn push_meant(text: &mut String, name: &str) -> Result<(), AllocError> {
     if text.is_empty() {
         text.push_str("; did you mean ")?;
@@ -70,7 +71,7 @@ fn push_meant(text: &mut String, name: &str) -> Result<(), AllocError> {
     text.push_str(name)
 }
 
-// Ends the question `is it ..?`, if the text has begun this question.
+// Ends the question `did you mean ..?`, if the text has begun it.
 fn end_meant(text: &mut String) -> Result<(), AllocError> {
     if text.is_empty() {
         return Ok(());
@@ -102,7 +103,7 @@ fn near_names(alloc: Global, names: &Names, side: Side, asked: &str) -> Result<S
     Ok(meant)
 }
 
-/// The fault that no member of this side has this name, with at most three similar names.
+/// The fault that no member of this side has this name, with up to three similar names.
 pub(crate) fn unknown(
     alloc: Global,
     names: &Names,
@@ -123,7 +124,7 @@ pub(crate) fn unknown(
     })
 }
 
-// The labels of at most ten members whom a name means, and the number of the remaining members.
+// The labels of up to ten members whom a name means, and how many more it means.
 fn labels_of(alloc: Global, names: &Names, side: Side, asked: &str) -> Result<String, AllocError> {
     let mut text = String::new(alloc);
     let mut meant = 0usize;
@@ -144,7 +145,7 @@ fn labels_of(alloc: Global, names: &Names, side: Side, asked: &str) -> Result<St
     Ok(text)
 }
 
-/// The fault that more than one member of this side has this name, with the labels of at most ten members.
+/// The fault that more than one member of this side has this name, with the labels of up to ten of them.
 pub(crate) fn several(
     alloc: Global,
     names: &Names,

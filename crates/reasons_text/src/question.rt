@@ -3,7 +3,7 @@
 /// Whom the question is about.
 #[derive(Clone, Copy, Debug, PartialEq, Eq)]
 pub enum Asked<'a> {
-    /// Every resident, with each programme on each resident's R record.
+    /// Every resident, each with the programmes on the resident's R record.
     All,
     /// The resident with this name, and each programme on the resident's R record.
     Resident(&'a str),
@@ -11,7 +11,7 @@ pub enum Asked<'a> {
     Pair(&'a str, &'a str),
 }
 
-/// A question.
+/// A question, and how and from what it is answered.
 #[derive(Clone, Copy, Debug, PartialEq, Eq)]
 pub struct Question<'a> {
     /// Whom the question is about.

@@ -29,15 +29,24 @@ pub enum NamesFault {
     /// A row of the key is bad, or memory ran out.
     #[error(transparent)]
     Key(WhyFault),
-    /// A name or an ID is no text, or has a character that isn't seen, or that moves other text.
+    /// A name or an ID is no text, or has a character that isn't seen or that moves other text.
     #[error("record {place} of the key: its name or ID has a hidden character")]
     Hidden {
         /// The number of the record, from 1.
         place: u64,
     },
+    /// A name or an ID is longer than [`LONGEST_NAME`].
+    #[error("record {place} of the key: its name or ID is longer than 10000 bytes")]
+    Long {
+        /// The number of the record, from 1.
+        place: u64,
+    },
 }
 
-/// For each member of a docket the real name, and the ID if there is one, if the key names the member.
+/// The greatest length in bytes of a name or an ID that is sealed.
+pub const LONGEST_NAME: usize = 10_000;
+
+/// For each member of a docket that the key names, the real name, and the ID if there is one.
 #[derive(Drop)]
 pub struct RealNames {
     programmes: Vec<Option<ByteRecord>>,
@@ -91,6 +100,13 @@ fn is_unclear(text: &[u8]) -> bool
     }
 }
 
+// Whether a name or an ID has too many bytes to be sealed.
+fn is_long(text: &[u8]) -> bool
+    ensures { result ≡ spec.is_long text.now }
+{
+    text.len() > LONGEST_NAME
+}
+
 // The records of a key.
 fn key_rows(alloc: Global, bytes: &[u8]) -> Result<Vec<ByteRecord>, AllocError>
     ensures { IfOk result (λ rows. AreKeyRows bytes.now (map fields_of rows.items)) }
@@ -122,7 +138,7 @@ fn real_fields(alloc: Global, row: &ByteRecord) -> Result<ByteRecord, AllocError
     Ok(real)
 }
 
-// No name for any of so many members.
+// No name yet for any of this many members.
 fn no_names(alloc: Global, count: u32) -> Result<Vec<Option<ByteRecord>>, AllocError>
     ensures { IfOk result (λ names. map real_in names.items ≡ replicate count None) }
 {
@@ -154,7 +170,7 @@ fn put(names: &mut Vec<Option<ByteRecord>>, place: usize, real: ByteRecord)
     }
 }
 
-// Notes a member's name, unless a row before named the member.
+// Notes a member's name, unless an earlier row named the member.
 #[tactic(auto, using(crate::proofs::RealFacts::is_none_too))]
 fn note(names: &mut Vec<Option<ByteRecord>>, member: usize, real: ByteRecord)
     ensures { map real_in names.new.items
@@ -198,8 +214,8 @@ impl RealNames {
         })
     }
 
-    /// The names in a key's rows, as `why` reads them. The rows may have no fault, and names and IDs no hidden character. Names
-    /// are hashed with keys that the runtime draws.
+    /// The names in a key's rows, as the program `residency-why` reads keys. No row may have a fault, and no name or
+    /// ID a hidden character or more than 10,000 bytes. Names are hashed with keys that the runtime draws.
     pub fn read<H: RandomSource>(
         rt: &H,
         alloc: Global,
@@ -242,7 +258,7 @@ impl RealNames {
         Ok(())
     }
 
-    /// The name of a programme, if the key names it.
+    /// The real name of a programme, if the key names it.
     pub fn programme(&self, programme: ProgrammeNo) -> Option<&ByteRecord>
         ensures { option_map (λ real. fields_of real.now) result
             ≡ slice_index_or self.now.programmes programme None }
@@ -250,7 +266,7 @@ impl RealNames {
         name_at(self.programmes.as_slice(), programme.0 as usize)
     }
 
-    /// The name of a resident, if the key names the resident.
+    /// The real name of a resident, if the key names the resident.
     pub fn resident(&self, resident: ResidentNo) -> Option<&ByteRecord>
         ensures { option_map (λ real. fields_of real.now) result
             ≡ slice_index_or self.now.residents resident None }
@@ -259,7 +275,7 @@ impl RealNames {
     }
 }
 
-// The fault of a row, after the rows that gave these names. The names of the row are added.
+// The fault of a row after rows that gave these names, or none. The names of the row are added to the key.
 fn test_row(
     alloc: Global,
     numbers: &MemberNumbers,
@@ -280,6 +296,9 @@ fn test_row(
     }
     if is_unclear(field(row, 2)) || is_unclear(field(row, 3)) {
         return Err(NamesFault::Hidden { place });
+    }
+    if is_long(field(row, 2)) || is_long(field(row, 3)) {
+        return Err(NamesFault::Long { place });
     }
     Ok(())
 }

@@ -12,7 +12,7 @@ use match_reasons::Why;
 use std::alloc::{AllocError, Global};
 use std::fmt;
 
-// A rank in words: 1st, 2nd, 3rd. The rank is stored as a number that counts from 0.
+// A rank that is written in words, such as 1st, 2nd or 3rd. The rank is stored as a number from 0.
 #[derive(Clone, Copy)]
 pub(crate) struct Place(pub(crate) usize);
 
@@ -46,7 +46,7 @@ impl fmt::Display for Place {
     }
 }
 
-// A count as a text. The count zero is written as a word.
+// A count that is written as a text. Zero is written as `none`.
 #[derive(Clone, Copy)]
 struct Count(usize);
 
@@ -257,7 +257,8 @@ fn programmes_word(listed: usize) -> &'static str
     }
 }
 
-// How many programmes a resident ranked, how many of them ranked the resident, and how many of them withdrew.
+// How many programmes a resident ranked, and of them, how many ranked the resident, and for how many the answer is a
+// withdrawal.
 #[tactic(auto, unfolding(crate::specs::Lines::ranked))]
 fn ranked(alloc: Global, has_withdrawn: bool, tally: Tally) -> Result<String, AllocError>
     ensures { IfOk result (λ text. string_bytes text

@@ -26,7 +26,7 @@ pub(crate) fn member_count(docket: &Docket, side: Side) -> u32
     }
 }
 
-// The docket's name of a resident, or an empty name for a number without a resident.
+// The docket's name of a resident, or an empty name if no resident has this number.
 #[tactic(auto, using(crate::proofs::NobodyFacts::resident_nobody))]
 fn resident_name(docket: &Docket, resident: ResidentNo) -> &str
     ensures { result.now ≡ texts.resident_name docket.now resident }
@@ -38,7 +38,7 @@ fn resident_name(docket: &Docket, resident: ResidentNo) -> &str
     }
 }
 
-// The docket's name of a programme, or an empty name for a number without a programme.
+// The docket's name of a programme, or an empty name if no programme has this number.
 #[tactic(auto, using(crate::proofs::NobodyFacts::programme_nobody))]
 fn programme_name(docket: &Docket, programme: ProgrammeNo) -> &str
     ensures { result.now ≡ texts.programme_name docket.now programme }
@@ -50,7 +50,7 @@ fn programme_name(docket: &Docket, programme: ProgrammeNo) -> &str
     }
 }
 
-/// The docket's name of a member, or an empty name for a number without a member.
+/// The docket's name of a member, or an empty name if no member has this number.
 pub(crate) fn docket_name(docket: &Docket, side: Side, number: u32) -> &str
     ensures { result.now ≡ name_in docket.now side number }
 {

@@ -32,12 +32,12 @@ fn fault_status(fault: &WhyFault) -> u8
     }
 }
 
-/// The exit status where a key gives no names to seal: 1 if memory ran out, and 3 for a key at fault.
+/// The exit status if a key gives no names to seal: 1 if memory ran out, and 3 if the key is at fault.
 pub fn names_status(fault: &NamesFault) -> u8
     ensures { result ≡ names_status_of fault.now }
 {
     match fault {
         NamesFault::Key(fault) => fault_status(fault),
-        NamesFault::Hidden { .. } => 3,
+        NamesFault::Hidden { .. } | NamesFault::Long { .. } => 3,
     }
 }

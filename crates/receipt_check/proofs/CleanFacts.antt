@@ -29,8 +29,8 @@ pub first_none : {X : Type 0} (a b : Option X) → first_of a b ≡ None → (a 
 first_none None b h = (refl, h)
 first_none (Some x) b h = cc h
 
--- none of the first ones
-none_at : {X : Type 0} (f : ℕ → Option X) (n k : ℕ) → first_in f n ≡ None → k < n → f k ≡ None
+-- if there is nothing at any place below n, there is nothing at place k below n
+pub none_at : {X : Type 0} (f : ℕ → Option X) (n k : ℕ) → first_in f n ≡ None → k < n → f k ≡ None
 none_at f zero k h l = absurd (omega arith)
 none_at f (suc n) k h l =
     let parts = first_none (first_in f n) (f n) h in
@@ -49,7 +49,7 @@ opening_fields root count index fields text h = by_digests (digests_of fields) r
     by_digests None e k = cc k
     by_digests (Some digests) e k = digest_fields fields digests e
 
--- what the openings have, if nothing is wrong with them
+-- the fields of the openings part neither fields nor rows, if nothing is wrong with the openings
 record HasOpenings (result_root : Option (List ℕ)) (r : Receipt) : Type 0 where
   count : IsField r.count
   index : IsField r.index
@@ -101,7 +101,7 @@ unfolding wrong_name
 names_clean on names h =
     each_field names (λ k l. name_field (get_or names k []) (named on (take k names) (get_or names k []) (map_none _ _ (none_at (name_at on names) (length names) k h l))))
 
--- a name that stands among these is one of them
+-- a name that is found among names parts neither fields nor rows, if none of them does
 one_of : (names : Cells) (name : List ℕ) → is_some (number_in names name) ≡ true → AreFields names → IsField name
 unfolding number_in
 one_of names name h all =
@@ -189,7 +189,7 @@ standing_fields false After fields e = elim (or_parts (is_bare (codes "better") 
   | inr gone ↦ gone_fields fields gone
 ]
 
-can_stand_of : (gone : Bool) (stand : Stand) (fields : Cells) → reason_wrong gone stand fields ≡ None → can_stand gone stand fields ≡ true
+pub can_stand_of : (gone : Bool) (stand : Stand) (fields : Cells) → reason_wrong gone stand fields ≡ None → can_stand gone stand fields ≡ true
 can_stand_of gone stand fields h = by_test (can_stand gone stand fields) h
   where
     by_test : (b : Bool) → (if b then None else Some (answer_wrong fields)) ≡ None → b ≡ true
@@ -203,7 +203,8 @@ answer_fields r own h k l =
 
 -- The lists and the result.
 
--- what the rows of the lists have, if nothing is wrong with them
+-- the fields of the rows of the lists part neither fields nor rows, if nothing is wrong with the
+-- lists
 record HasLists (r : Receipt) : Type 0 where
   name : IsField r.name
   quota : r.kind ≡ Programme → IsField r.quota
@@ -245,7 +246,8 @@ members_clean r (Some quota) h = by_test (nat_lt quota (length r.after)) (r.gone
     by_test false true k = cc k
     by_test false false k = names_clean (Some r.list) (members r) (map_none _ _ k)
 
--- what the rows of a resident's result have, if nothing is wrong with them
+-- the fields of a resident's result part neither fields nor rows, if nothing is wrong with the
+-- result
 record HasReasons (r : Receipt) : Type 0 where
   own : (own : List ℕ) → r.own ≡ Some own → IsField own
   answers : (k : ℕ) → k < length r.list → AreFields (answer r k)
@@ -301,6 +303,10 @@ lists_rows_clean : (kind : Kind) (r : Receipt) → r.kind ≡ kind → HasLists 
 lists_rows_clean Programme r e h =
     ((word (codes "Q") refl, (h.name, (h.quota e, tt))), rows_and (list_rows r) (last_rows r) (list_clean r h.name h.list) (last_clean r h))
 lists_rows_clean Resident r e h = ((word (codes "R") refl, (h.name, h.list)), last_clean r h)
+
+-- if nothing is wrong with a member's lists, their rows can be printed and read back
+pub lists_are_rows : (r : Receipt) → lists_fault r ≡ None → AreRows (lists_rows_of r.kind r)
+lists_are_rows r h = lists_rows_clean r.kind r refl (lists_clean r h)
 
 part_clean : (expected root count index : List ℕ) (opening : Cells) → IsField expected → IsField count → IsField index → AreFields opening → AreRows (part_rows expected root count index opening)
 part_clean expected root count index opening w c i o =

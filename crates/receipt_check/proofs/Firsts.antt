@@ -9,13 +9,13 @@ use Rattle.std.proofs.lemmas.Slice.Eq.{bytes_eq-Decides}
 use Rattle.docket_names.specs.Texts.{number_in}
 use Rattle.receipt_check.specs.Faults.{first_in}
 
--- none of the first ones, and not the next one
+-- if there is nothing at the places below n and at place n, there is nothing below n + 1
 pub first_next : {X : Type 0} (f : ℕ → Option X) (n : ℕ) → first_in f n ≡ None → f n ≡ None → first_in f (n + 1) ≡ None
 first_next f n none next =
     let more : n + 1 ≡ suc n = omega arith in
     rw (more, none) next
 
--- the one at a place, if none stands before it
+-- what stands at place k below n is the first below n, if nothing stands before it
 pub first_here : {X : Type 0} (f : ℕ → Option X) (k n : ℕ) (x : X) → k < n → first_in f k ≡ None → f k ≡ Some x → first_in f n ≡ Some x
 first_here f k zero x l none here = absurd (omega arith)
 first_here f k (suc n) x l none here = elim (cases_lt k n) [
@@ -25,7 +25,7 @@ first_here f k (suc n) x l none here = elim (cases_lt k n) [
       rw (← same, none, here) refl
 ]
 
--- a text that has no place stands at no place
+-- a text that isn't found among texts is at none of their places
 pub not_there : (texts : List (List ℕ)) (n : ℕ) (text : List ℕ) → is_some (number_in texts text) ≡ false → slice_get texts n ≡ Some text → ⊥
 unfolding number_in
 not_there texts n text none there =

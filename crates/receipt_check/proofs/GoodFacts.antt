@@ -16,7 +16,7 @@ use Rattle.receipt_check.proofs.ShownFacts.{kept_of, printed_rows, read_is, rece
 use Rattle.receipt_check.proofs.KeptFacts.{value_kept}
 use Rattle.receipt_check.proofs.CleanFacts.{first_none, map_none, rows_clean}
 
-if_none : {X : Type 0} (b : Bool) (x : X) (o : Option X) → (if b then Some x else o) ≡ None → (b ≡ false) × (o ≡ None)
+pub if_none : {X : Type 0} (b : Bool) (x : X) (o : Option X) → (if b then Some x else o) ≡ None → (b ≡ false) × (o ≡ None)
 if_none true x o h = cc h
 if_none false x o h = (refl, h)
 
@@ -26,7 +26,7 @@ short n t = search (rules, t)
 not_long : (n : ℕ) → n ≤ longest → nat_lt longest n ≡ false
 not_long n h = search (rules, h)
 
--- two texts that differ in no row are one text
+-- two texts that differ in no row are equal
 unlike_none : (a b : List ℕ) → first_unlike a b ≡ None → a ≡ b
 unlike_none [] [] h = refl
 unlike_none [] (y ∷ ys) h = cc h
@@ -48,26 +48,41 @@ unlike_same : (a : List ℕ) → first_unlike a a ≡ None
 unlike_same [] = refl
 unlike_same (x ∷ xs) = rw (eq-eqb x x refl, unlike_same xs) refl
 
--- the list that is read stands in the rows
+-- the list in the contents of a receipt is the one that its rows show: a programme without the row has
+-- none
 list_shown : (kind : Kind) (is_row : Bool) (fields : Cells)
     → ListIsShown kind (is_programme kind && is_row) (if is_programme kind && not (is_programme kind && is_row) then [] else fields)
 list_shown Programme true fields = tt
 list_shown Programme false fields = refl
 list_shown Resident is_row fields = tt
 
+-- what is read of rows tells a list exactly if the rows show one
+pub list_read : (rows : List Cells) → ListIsShown (read rows).kind (read rows).has_list (read rows).list
+unfolding read
+list_read rows = list_shown (kind_in rows) (bytes_eq (cell rows 4 0) (codes "P")) (drop 2 (row_at rows (list_place (has_list_in rows))))
+
+-- a receipt without a fault is short, has the rows of what is read of it, and nothing is wrong with
+-- what is read
+pub parts_none : (lists_root : List ℕ) (result_root : Option (List ℕ)) (bytes : List ℕ) → receipt_fault lists_root result_root bytes ≡ None
+    → (nat_lt longest (length bytes) ≡ false)
+    × (shape_fault lists_root result_root (read (split_rows (plain_text bytes))) (split_rows (plain_text bytes)) (plain_text bytes) ≡ None)
+    × (value_fault lists_root result_root (read (split_rows (plain_text bytes))) ≡ None)
+unfolding text_fault
+parts_none lists_root result_root bytes h =
+    let whole = if_none (nat_lt longest (length bytes)) (at 0 wrong.Long) (text_fault lists_root result_root (plain_text bytes)) h in
+    let both = first_none (shape_fault lists_root result_root (read (split_rows (plain_text bytes))) (split_rows (plain_text bytes)) (plain_text bytes)) _ whole.1 in
+    (whole.0, both.0, both.1)
+
 sound : (lists_root : List ℕ) (result_root : Option (List ℕ)) (bytes : List ℕ) → receipt_fault lists_root result_root bytes ≡ None → IsGoodReceipt lists_root result_root bytes
-unfolding text_fault read
 sound lists_root result_root bytes h =
-    let text = plain_text bytes in
-    let rows = split_rows text in
-    let whole = if_none (nat_lt longest (length bytes)) (at 0 wrong.Long) (text_fault lists_root result_root text) h in
-    let both = first_none (shape_fault lists_root result_root (read rows) rows text) (value_fault lists_root result_root (read rows)) whole.1 in
+    let rows = split_rows (plain_text bytes) in
+    let parts = parts_none lists_root result_root bytes h in
     record {
       content = read rows;
-      is_short = short (length bytes) whole.0;
-      text_is = shape_none lists_root result_root (read rows) rows text both.0;
-      list_is = list_shown (kind_in rows) (bytes_eq (cell rows 4 0) (codes "P")) (drop 2 (row_at rows (list_place (has_list_in rows))));
-      nothing_wrong = both.1;
+      is_short = short (length bytes) parts.0;
+      text_is = shape_none lists_root result_root (read rows) rows (plain_text bytes) parts.1;
+      list_is = list_read rows;
+      nothing_wrong = parts.2;
     }
 
 complete : (lists_root : List ℕ) (result_root : Option (List ℕ)) (bytes : List ℕ) → IsGoodReceipt lists_root result_root bytes → receipt_fault lists_root result_root bytes ≡ None

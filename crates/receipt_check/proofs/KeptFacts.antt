@@ -23,7 +23,8 @@ result_text_kept : (root : List ℕ) (kind : Kind) (r : Receipt) → r.kind ≡ 
 unfolding result_text
 result_text_kept root kind r e = ap lines (result_rows_kept root kind r ∙ ap (λ k. result_rows_of k r) (sym e))
 
--- whichever numbers the receipt has
+-- what is wrong with the openings is the same for what is read back of a receipt, whichever count
+-- and place they are checked with
 openings_at_kept : (lists_root : List ℕ) (result_root : Option (List ℕ)) (kind : Kind) (r : Receipt) (count index : Option ℕ) → r.kind ≡ kind
     → openings_at lists_root result_root (kept_of kind result_root r) count index ≡ openings_at lists_root result_root r count index
 openings_at_kept lists_root result_root kind r None index e = refl

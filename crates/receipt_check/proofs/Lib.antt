@@ -1,10 +1,13 @@
 pub mod Steps
-mod Firsts
+pub mod Firsts
+mod PairFacts
+mod FolderFacts
 mod TextFacts
 mod RowFacts
 mod ShownFacts
 mod KeptFacts
 mod NamedFacts
 mod FieldFacts
-mod CleanFacts
-mod GoodFacts
+pub mod CleanFacts
+pub mod GoodFacts
+pub mod ListsFacts

@@ -4,7 +4,7 @@ use Rattle.std.specs.Str.{IsUtf8, is_utf8}
 use Rattle.std.proofs.lemmas.Bool.{cases_Bool}
 use Rattle.std.proofs.lemmas.Str.{IsUtf8-from_is_utf8}
 
--- bytes that are no text fail the test that the code makes
+-- bytes that aren't UTF-8 fail the code's test for UTF-8
 pub no_text : (text : List ℕ) → (IsUtf8 text → ⊥) → is_utf8 text ≡ false
 no_text text h = elim (cases_Bool (is_utf8 text)) [
   | inl is ↦ absurd (h (IsUtf8-from_is_utf8 text is))

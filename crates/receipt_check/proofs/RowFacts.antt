@@ -7,11 +7,11 @@ use Rattle.std.proofs.lemmas.List.Splits.{slice_split_at, slice_split_none}
 use Rattle.std.proofs.Math.Seq.{take-append_seam}
 use Rattle.receipt_check.specs.Rows.{Cells, but_last, line, lines, more_fields, pieces, split_rows}
 
--- the byte parts neither fields nor rows
+-- the byte is neither a comma nor a line feed
 abbrev pub PartsNothing : ℕ → Type 0
 PartsNothing b = ((b == 44) ≡ false) × ((b == 10) ≡ false)
 
--- a field can have this text
+-- the text can be a field: none of its bytes is a comma or a line feed
 abbrev pub IsField : List ℕ → Type 0
 IsField text = All PartsNothing text
 
@@ -19,7 +19,7 @@ abbrev pub AreFields : Cells → Type 0
 AreFields [] = ⊤
 AreFields (first ∷ rest) = IsField first × AreFields rest
 
--- a row can have these fields
+-- the fields can be a row: there is a first one, and each can be a field
 abbrev pub IsRow : Cells → Type 0
 IsRow [] = ⊥
 IsRow (first ∷ rest) = AreFields (first ∷ rest)
@@ -37,7 +37,7 @@ no_comma text h = All-weaker PartsNothing (λ b. (b == 44) ≡ false) (λ b p. p
 no_feed : (text : List ℕ) → IsField text → HasNoFeed text
 no_feed text h = All-weaker PartsNothing (λ b. (b == 10) ≡ false) (λ b p. p.1) text h
 
--- a row as it is printed, without its line feed
+-- a row as it is printed, but without its line feed
 abbrev body : Cells → List ℕ
 body [] = []
 body (first ∷ rest) = first ++ more_fields rest
@@ -90,7 +90,7 @@ rows_read rows h =
     ap (λ (t : List (List ℕ)). map (pieces 44) (but_last t)) (lines_parted rows h)
     ∙ ap (map (pieces 44)) (but_last_push (map body rows) []) ∙ bodies_read rows h
 
--- rows after others
+-- rows are printed as the first of them and then the others
 pub lines_append : (a b : List Cells) → lines (a ++ b) ≡ lines a ++ lines b
 lines_append [] b = refl
 lines_append (row ∷ rows) b = ap (λ (t : List ℕ). line row ++ t) (lines_append rows b) ∙ sym (append_assoc (line row) (lines rows) (lines b))

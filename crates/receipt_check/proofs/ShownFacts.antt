@@ -11,7 +11,7 @@ use Rattle.receipt_check.specs.declared.kind.Kind.TheVariants.{Programme, Reside
 use Rattle.receipt_check.specs.Good.{ListIsShown}
 use Rattle.receipt_check.proofs.RowFacts.{lines_append}
 
--- the rows of the result, if a root of one was published
+-- the rows of the result's part, or none if no root of a result was published
 abbrev pub result_part_rows : Option (List ℕ) → Receipt → List Cells
 result_part_rows None r = []
 result_part_rows (Some root) r = part_rows (codes "result") root r.count r.index r.second ++ result_rows r
@@ -33,7 +33,8 @@ printed_rows lists_root result_root r =
     ∙ ap (λ (t : List ℕ). lines (first_row r ∷ part_rows (codes "lists") lists_root r.count r.index r.opening) ++ t) (sym (lines_append (lists_rows r) (result_part_rows result_root r)))
     ∙ sym (lines_append (first_row r ∷ part_rows (codes "lists") lists_root r.count r.index r.opening) (lists_rows r ++ result_part_rows result_root r))
 
--- what is read of a receipt: the rows after the first one of the result, and what the result's rows tell
+-- what is read back as the quota: a programme's quota, or the first name on a resident's list, which
+-- stands there in the row
 abbrev pub kept_quota : Kind → Receipt → List ℕ
 kept_quota Programme r = r.quota
 kept_quota Resident r = text_at r.list 0
@@ -108,7 +109,8 @@ read_fields lists_root (Some root) Resident name count index quota opening list 
 pub read_is : (lists_root : List ℕ) (result_root : Option (List ℕ)) (r : Receipt) → ListIsShown r.kind r.has_list r.list → read (receipt_rows lists_root result_root r) ≡ kept_of r.kind result_root r
 read_is lists_root result_root r h = read_fields lists_root result_root r.kind r.name r.count r.index r.quota r.opening r.list r.second r.after r.own r.has_list r.gone r.named h r refl
 
--- what is made of the numbers below n is the same
+-- lists that are made of the numbers of a range by two functions are equal, if both functions make the
+-- same of each number
 range_same : {A : Type 0} (f g : ℕ → A) (a n : ℕ) → ((k : ℕ) → k < a + n → f k ≡ g k) → map f (range_with_len a n) ≡ map g (range_with_len a n)
 range_same f g a zero h = refl
 range_same f g a (suc n) h =
@@ -125,7 +127,7 @@ answer_kept r k l = ap (drop 3) (get_or-map-range_with_len (reason_row r) 0 (len
 reason_kept : (r r' : Receipt) → r'.name ≡ r.name → r'.list ≡ r.list → (k : ℕ) → answer r' k ≡ answer r k → reason_row r' k ≡ reason_row r k
 reason_kept r r' n l k a = rw (n, l, a) refl
 
--- the rows of the result are the same
+-- what is read back of a receipt has the same rows of the result
 pub result_rows_kept : (root : List ℕ) (kind : Kind) (r : Receipt) → result_rows_of kind (kept_of kind (Some root) r) ≡ result_rows_of kind r
 result_rows_kept root Programme r =
     let many : length (map (member_row r.name) (members r)) ≡ length r.after = length-map (members r) (member_row r.name) ∙ length-map r.after (λ row. text_at row 1) in
@@ -138,7 +140,7 @@ pub lists_rows_kept : (result_root : Option (List ℕ)) (kind : Kind) (r : Recei
 lists_rows_kept result_root Programme r e = rw e refl
 lists_rows_kept result_root Resident r e = rw e refl
 
--- so the receipt that is read has the same text
+-- what is read back of a receipt has the same rows
 pub rows_kept : (lists_root : List ℕ) (result_root : Option (List ℕ)) (kind : Kind) (r : Receipt) → r.kind ≡ kind
     → receipt_rows lists_root result_root (kept_of kind result_root r) ≡ receipt_rows lists_root result_root r
 rows_kept lists_root None Programme r e = rw e refl

@@ -8,7 +8,8 @@ use Rattle.receipt_check.specs.declared.kind.Kind.TheVariants.{Programme, Reside
 use Rattle.receipt_check.specs.declared.wrong.ReceiptFault.{ReceiptFault}
 use Rattle.receipt_check.specs.declared.wrong.ReceiptFault.TheVariants as faults
 
--- what a receipt tells stands in it: a programme's list, if it has one, has a row of its own, and a resident's has none
+-- No list is lost when the content is printed: a programme without a row for its list has no list, and a resident has
+-- no such row.
 abbrev pub ListIsShown : Kind → Bool → Cells → Type 0
 ListIsShown Programme true list = ⊤
 ListIsShown Programme false list = list ≡ []

@@ -6,3 +6,9 @@ pub mod Faults
 pub mod Told
 pub mod Good
 pub mod Shown
+pub mod Pair
+pub mod Side
+pub mod Compared
+pub mod Folder
+pub mod Held
+pub mod Published

@@ -7,7 +7,7 @@ use Rattle.records.specs.Reading.{Fields, field, rows_of}
 use Rattle.receipt_check.specs.Rows.{Cells, lines}
 use Rattle.receipt_check.specs.Receipt.{name_rows}
 
--- the row as it is printed
+-- the row of the real name as it is printed, or nothing without such a row
 abbrev pub name_text : Cells → List ℕ
 name_text named = lines (name_rows named)
 
@@ -24,7 +24,7 @@ real_fields named = first_fields (rows_of (name_text named))
 abbrev pub is_printed : Cells → Fields → Bool
 is_printed named fields = bytes_eq (csv.line fields) (name_text named)
 
--- whether these are a real name, or a real name and an ID, after the `N`
+-- whether the fields after the `N` are a real name, or a real name and an ID, and none is empty
 abbrev pub has_parts : Fields → Bool
 has_parts fields = not (length (field fields 1) == 0) && ((length fields == 2) || (length fields == 3) && not (length (field fields 2) == 0))
 
@@ -35,14 +35,14 @@ is_shown c =
     nat_le 32 c && not (nat_le 127 c && nat_le c 159) && not (c == 1564) && not (nat_le 8206 c && nat_le c 8207)
     && not (nat_le 8232 c && nat_le c 8238) && not (nat_le 8294 c && nat_le c 8297)
 
--- whether what stands between two commas can have the character
+-- whether a text between two commas can have the character
 abbrev pub is_part : ℕ → Bool
 is_part c = is_shown c && not (c == 44)
 
--- whether what stands between two commas is text of such characters
+-- whether a text between two commas is UTF-8, and has only such characters
 abbrev pub is_piece : List ℕ → Bool
 is_piece piece = is_utf8 piece && list_all is_part (chars piece)
 
--- whether the row is that of a real name
+-- whether the row is a right one: of such texts, printed as csv prints it, with a real name and perhaps an ID
 unfoldable pub is_real : Cells → Bool
 is_real named = list_all is_piece named && is_printed named (real_fields named) && has_parts (real_fields named)

@@ -43,7 +43,7 @@ kind_in rows = if bytes_eq (cell rows 0 2) (codes "P") then Programme else Resid
 abbrev pub has_list_in : List Cells → Bool
 has_list_in rows = is_programme (kind_in rows) && bytes_eq (cell rows 4 0) (codes "P")
 
--- the place of the row with the list, or of a programme's only row
+-- the place of the row with the member's list; for a programme without a list, of its quota's row
 abbrev pub list_place : Bool → ℕ
 list_place has_list = if has_list then 4 else 3
 
@@ -60,7 +60,7 @@ has_real_name (piece ∷ rest) = true
 abbrev pub end_place : Bool → Bool → Cells → ℕ
 end_place has_list gone named = named_place has_list gone + (if has_real_name named then 1 else 0)
 
--- the same, of a receipt
+-- the place of the row after a receipt's rows of the lists
 abbrev pub end_of : Receipt → ℕ
 end_of r = end_place r.has_list r.gone r.named
 
@@ -79,7 +79,7 @@ name_row row = if bytes_eq (text_at row 0) (codes "N") then drop 1 row else []
 abbrev pub named_in : List Cells → Cells
 named_in rows = name_row (row_at rows (named_place (has_list_in rows) (gone_in rows)))
 
--- where the result begins
+-- the place of the row where the result begins
 abbrev pub end_in : List Cells → ℕ
 end_in rows = end_place (has_list_in rows) (gone_in rows) (named_in rows)
 
@@ -87,7 +87,7 @@ end_in rows = end_place (has_list_in rows) (gone_in rows) (named_in rows)
 abbrev pub own_in : Cells → Option (List ℕ)
 own_in row = if bytes_eq (text_at row 0) (codes "M") then Some (text_at row 2) else None
 
--- what these rows tell
+-- the content that these rows give
 unfoldable pub read : List Cells → Receipt
 read rows = record {
   kind = kind_in rows;
@@ -132,7 +132,7 @@ lists_rows_of Resident r = (codes "R" ∷ r.name ∷ r.list) ∷ last_rows r
 abbrev pub lists_rows : Receipt → List Cells
 lists_rows r = lists_rows_of r.kind r
 
--- the residents of a programme
+-- the residents of a programme, from the rows after that of the filled places
 abbrev pub members : Receipt → Cells
 members r = map (λ row. text_at row 1) r.after
 
@@ -165,7 +165,7 @@ result_rows_of Resident r = placed_row r.name r.own ∷ map (reason_row r) (rang
 abbrev pub result_rows : Receipt → List Cells
 result_rows r = result_rows_of r.kind r
 
--- the texts that were sealed of a member: before the match, and after it
+-- the text that was sealed of a member before the match; `result_text` is that after it
 unfoldable pub lists_text : Receipt → List ℕ
 lists_text r = lines (lists_rows r)
 
@@ -182,7 +182,7 @@ part_rows word root count index opening =
 abbrev pub first_row : Receipt → Cells
 first_row r = codes "receipt" ∷ codes "2" ∷ letter_of r.kind ∷ r.name ∷ []
 
--- what a receipt has of the result, if a root of one was published
+-- what a receipt has of the result; nothing if no root of a result was published
 abbrev pub result_part : Option (List ℕ) → Receipt → List ℕ
 result_part None r = []
 result_part (Some root) r = lines (part_rows (codes "result") root r.count r.index r.second) ++ result_text r

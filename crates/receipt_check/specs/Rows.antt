@@ -45,7 +45,8 @@ but_last lines = take (length lines - 1) lines
 unfoldable pub split_rows : List ℕ → List Cells
 split_rows text = map (pieces 44) (but_last (pieces 10 text))
 
--- the fields of a row, and the field at a place of a row; a row that is missing has no fields
+-- the fields of row k, or none if it is missing; `text_at` is field i of a row, or empty if it is missing, and
+-- `cell` field i of row k
 abbrev pub row_at : List Cells → ℕ → Cells
 row_at rows k = slice_index_or rows k []
 

@@ -7,7 +7,7 @@ use Rattle.receipt_check.specs.declared.wrong.Wrong.TheVariants as wrong
 use Rattle.receipt_check.specs.declared.wrong.Fault.{Fault}
 use Rattle.hex.specs.Hex.{encode_lower}
 
--- how many line feeds the byte is
+-- 1 if the byte is a line feed, else 0
 abbrev pub feeds : ℕ → ℕ
 feeds byte = if byte == 10 then 1 else 0
 
@@ -19,26 +19,26 @@ first_unlike (x ∷ xs) [] = Some 0
 first_unlike (x ∷ xs) (y ∷ ys) =
     if x == y then option_map (λ row. row + feeds x) (first_unlike xs ys) else Some 0
 
--- what is wrong with the first row
+-- what is wrong with the first row: it is that of an earlier form, or of no receipt
 abbrev pub header_wrong : List Cells → Wrong
 header_wrong rows =
     if bytes_eq (cell rows 0 0) (codes "receipt") && bytes_eq (cell rows 0 1) (codes "1") then wrong.Age else wrong.Header
 
--- what is wrong with the row of a root, which has another root, another count than that of the lists, or another form
+-- what is wrong with the row of a root: another form, another root, or another number of members than the receipt has
 abbrev pub root_wrong : List ℕ → List ℕ → Cells → Wrong
 root_wrong root count row =
     if not (length (text_at row 2) == 64) then wrong.RootRow
     else if not (bytes_eq (text_at row 2) (encode_lower root)) then wrong.Root
     else if bytes_eq (text_at row 1) count then wrong.RootRow else wrong.Count
 
--- what is wrong with a row of the result
+-- what is wrong with row k, from 0, of a receipt's result
 abbrev pub result_wrong : List ℕ → Receipt → List Cells → ℕ → Wrong
 result_wrong root r rows k =
     if k == end_of r then (if bytes_eq (cell rows k 0) (codes "result") then root_wrong root r.count (row_at rows k) else wrong.List)
     else if k == end_of r + 1 then (if bytes_eq (cell rows k 2) r.index then wrong.OpeningRow else wrong.Place)
     else wrong.Result
 
--- what is wrong with a row after those of the lists
+-- what is wrong with row k, from 0, which comes after those of the lists
 abbrev pub later_wrong : Option (List ℕ) → Receipt → List Cells → ℕ → Wrong
 later_wrong None r rows k = if bytes_eq (cell rows k 0) (codes "result") then wrong.Unasked else wrong.List
 later_wrong (Some root) r rows k = result_wrong root r rows k
@@ -53,7 +53,7 @@ shape_wrong lists_root result_root r rows k =
     else if nat_lt k (end_of r) then wrong.List
     else later_wrong result_root r rows k
 
--- the fault of a row, from 0
+-- what is wrong, as a fault of row k, where k is from 0
 abbrev pub at : ℕ → Wrong → Fault
 at k w = record { row = k + 1; wrong = w }
 

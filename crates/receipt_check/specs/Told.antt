@@ -17,7 +17,7 @@ stop = 46 ∷ 10 ∷ []
 abbrev pub more_names : Cells → List ℕ
 more_names names = flat_map (λ name. codes ", " ++ name) names
 
--- the names of a list
+-- the names on a list, with commas between them; `nobody` if there are none
 abbrev pub names_text : Cells → List ℕ
 names_text [] = codes "nobody"
 names_text (first ∷ rest) = first ++ more_names rest
@@ -68,7 +68,7 @@ lists_words Resident quota = codes ": the sealed lists have your list: "
 abbrev pub gone_words : Bool → List ℕ
 gone_words gone = if gone then codes "You are withdrawn" ++ stop else []
 
--- the member, and the list that was sealed
+-- the sentences on the member and the member's sealed list
 unfoldable pub told_lists : Receipt → List ℕ
 told_lists r = r.name ++ (lists_words r.kind r.quota ++ (names_text r.list ++ (stop ++ gone_words r.gone)))
 
@@ -91,7 +91,7 @@ abbrev pub told_result_if : Option (List ℕ) → Receipt → List ℕ
 told_result_if None r = []
 told_result_if (Some root) r = told_result r
 
--- the ID, if there is one
+-- the ID in brackets, or nothing if there is none
 abbrev pub id_words : List ℕ → List ℕ
 id_words [] = []
 id_words (c ∷ rest) = codes " (" ++ ((c ∷ rest) ++ codes ")")

@@ -1,29 +1,60 @@
 //! The check of a receipt.
-ghost use Rattle.std.specs.Prelude.{◌≡◌, ◌≢◌, ℕ, None, Some, List, IfErr, IfOk, MatchResult, OnOk, option_map};
+ghost use Rattle.std.specs.Prelude.{◌≡◌, ◌≢◌, ℕ, None, Some, true, List, IfErr, IfOk, MatchResult, OnOk, option_map};
 ghost use Rattle.std.specs.Io.KnownBytes.{Appends};
+ghost use Rattle.docket_names.specs.Words as lawful;
 ghost use Rattle.receipt_check.specs.Faults as faults;
 ghost use Rattle.receipt_check.specs.Faults.{receipt_fault};
 ghost use Rattle.receipt_check.specs.Good.{IsReceiptFault};
 ghost use Rattle.receipt_check.specs.Receipt as receipt;
 ghost use Rattle.receipt_check.specs.Rows as form;
+ghost use Rattle.receipt_check.specs.Shown.{content, fields_in, rows_in};
 ghost use Rattle.receipt_check.specs.Told as words;
 
-use crate::faults::value_fault;
+use crate::faults::checked_list;
 use crate::rows::{plain_text, split_rows};
 use crate::shape::shape_fault;
-use crate::shown::read;
+use crate::shown::{Shown, read};
 use crate::told::told;
 use crate::wrong::{Fault, ReceiptFault, Wrong, at};
+use docket_names::Texts;
 use std::alloc::{AllocError, Global};
 use std::hash::RandomState;
 use std::io::Write;
 use std::random::RandomSource;
 
-// How many bytes a receipt has at most; the longest that a docket can have is shorter.
-const LONGEST: usize = 2_000_000;
+/// How many bytes a receipt has at most. The longest receipt that a docket can have is shorter.
+pub(crate) const LONGEST: usize = 2_000_000;
 
-// What the receipt that this text is shows; or the first thing that is wrong with it.
+/// The content of the receipt with these rows and the names on its list, or the first thing that is wrong with it.
 #[tactic(auto, unfolding(crate::specs::Faults::text_fault))]
+pub(crate) fn checked<'r, 'a>(
+    alloc: Global,
+    keys: RandomState,
+    text: &[u8],
+    rows: &'r [Vec<&'a [u8]>],
+    lists_root: &[u8; 32],
+    result_root: Option<&[u8; 32]>,
+) -> Result<Result<(Shown<'r, 'a>, Texts), Fault>, AllocError>
+    requires { rows_in rows.now ≡ form.split_rows text.now }
+    ensures { IfOk result (λ answer. MatchResult answer
+        (λ good. (faults.text_fault lists_root.now
+        (option_map (λ root. root.now) result_root.entry) text.now ≡ None)
+        × (content good.0 ≡ receipt.read (form.split_rows text.now))
+        × (good.1 ≡ fields_in good.0.list.now) × (lawful.is_name good.0.name.now ≡ true))
+        (λ fault. faults.text_fault lists_root.now
+        (option_map (λ root. root.now) result_root.entry) text.now ≡ Some fault)) }
+{
+    let shown = read(rows);
+    if let Some(fault) = shape_fault(alloc, lists_root, result_root, &shown, rows, text)? {
+        return Ok(Err(fault));
+    }
+    match checked_list(alloc, keys, lists_root, result_root, &shown)? {
+        Ok(list) => Ok(Ok((shown, list))),
+        Err(fault) => Ok(Err(fault)),
+    }
+}
+
+// What the receipt with this text shows, in words, or the first thing that is wrong with it.
 fn words_of(
     alloc: Global,
     keys: RandomState,
@@ -40,24 +71,13 @@ fn words_of(
         (option_map (λ root. root.now) result_root.entry) text.now ≡ Some fault)) }
 {
     let rows = split_rows(alloc, text)?;
-    let shown = read(rows.as_slice());
-    if let Some(fault) = shape_fault(
-        alloc,
-        lists_root,
-        result_root,
-        &shown,
-        rows.as_slice(),
-        text,
-    )? {
-        return Ok(Err(fault));
+    match checked(alloc, keys, text, rows.as_slice(), lists_root, result_root)? {
+        Ok((shown, _)) => Ok(Ok(told(alloc, result_root, &shown)?)),
+        Err(fault) => Ok(Err(fault)),
     }
-    if let Some(fault) = value_fault(alloc, keys, lists_root, result_root, &shown)? {
-        return Ok(Err(fault));
-    }
-    Ok(Ok(told(alloc, result_root, &shown)?))
 }
 
-// What the receipt shows; or why there is nothing to say.
+// What the receipt shows, in words, or why it shows nothing.
 fn answer_of<H: RandomSource>(
     rt: &H,
     alloc: Global,

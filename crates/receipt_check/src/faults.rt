@@ -1,5 +1,6 @@
 //! What is wrong with a receipt's content.
-ghost use Rattle.std.specs.Prelude.{◌≡◌, ◌<◌, ◌^◌, ◌+◌, ℕ, Some, None, IfOk, MatchResult, Option, length, option_map};
+ghost use Rattle.std.specs.Prelude.{◌≡◌, ◌<◌, ◌^◌, ◌+◌, ℕ, Some, None, true, IfOk, MatchResult, Option, length, option_map};
+ghost use Rattle.docket_names.specs.Words as words;
 ghost use Rattle.receipt_check.specs.Faults as faults;
 ghost use Rattle.receipt_check.specs.Receipt.{members};
 ghost use Rattle.receipt_check.specs.Shown.{content, fields_in};
@@ -16,7 +17,7 @@ use docket_names::{Texts, is_name};
 use std::alloc::{AllocError, Global};
 use std::hash::RandomState;
 
-// The row after those of the lists and of the result's opening, so many rows on.
+// The place of row `k` after the root and the opening of a receipt's result.
 fn result_place(shown: &Shown, k: usize) -> usize
     requires { k < 2 ^ 63 }
     ensures { result ≡ faults.result_place (content shown.now) k }
@@ -24,7 +25,8 @@ fn result_place(shown: &Shown, k: usize) -> usize
     shown.end() + 2 + k
 }
 
-// What is wrong with the reasons of a resident, whose own programme is this choice.
+// The first fault of a resident's answers. `own` is the choice that is the resident's own
+// programme.
 fn reasons_fault(shown: &Shown, own: Option<usize>) -> Option<Fault>
     ensures { result ≡ faults.reasons_fault (content shown.now) own }
 {
@@ -34,7 +36,7 @@ fn reasons_fault(shown: &Shown, own: Option<usize>) -> Option<Fault>
     }
 }
 
-// What is wrong with the result of a resident with this list.
+// The first fault of the result of a resident with this list.
 fn resident_fault(shown: &Shown, list: &Texts) -> Option<Fault>
     requires { list.now ≡ fields_in shown.now.list.now }
     ensures { result ≡ faults.resident_fault (content shown.now)
@@ -66,7 +68,7 @@ pub(crate) fn members_in<'r, 'a>(
     Ok(found)
 }
 
-// What is wrong with the residents of a programme with this list.
+// The first fault among the residents of a programme with this list.
 fn members_fault(
     alloc: Global,
     keys: RandomState,
@@ -83,7 +85,7 @@ fn members_fault(
     }
 }
 
-// What is wrong with the result of a programme with this list.
+// The first fault of the result of a programme with this list.
 fn programme_fault(
     alloc: Global,
     keys: RandomState,
@@ -106,7 +108,7 @@ fn programme_fault(
     members_fault(alloc, keys, shown, list)
 }
 
-// What is wrong with the result of a member with this list.
+// The first fault of the result of a member with this list.
 fn result_fault(
     alloc: Global,
     keys: RandomState,
@@ -134,7 +136,7 @@ fn real_fault(alloc: Global, shown: &Shown) -> Result<Option<Fault>, AllocError>
     Ok(Some(at(place, Wrong::RealName)))
 }
 
-// The names of a member's list; or what is wrong with its name, quota, list and real name.
+// The names on a member's list, or the first fault of the member's name, quota, list and real name.
 fn lists_in(
     alloc: Global,
     keys: RandomState,
@@ -142,7 +144,8 @@ fn lists_in(
 ) -> Result<Result<Texts, Fault>, AllocError>
     ensures { IfOk result (λ answer. MatchResult answer
         (λ list. (list ≡ fields_in shown.now.list.now)
-        × (faults.lists_fault (content shown.now) ≡ None))
+        × (faults.lists_fault (content shown.now) ≡ None)
+        × (words.is_name shown.now.name.now ≡ true))
         (λ fault. faults.lists_fault (content shown.now) ≡ Some fault)) }
 {
     if !is_name(shown.name) {
@@ -161,27 +164,33 @@ fn lists_in(
     }
 }
 
-/// What is wrong with a receipt's content.
+/// The names on the list of a receipt with this content, or the first fault of the content.
 #[tactic(auto, unfolding(crate::specs::Faults::value_fault))]
-pub(crate) fn value_fault(
+pub(crate) fn checked_list(
     alloc: Global,
     keys: RandomState,
     lists_root: &[u8; 32],
     result_root: Option<&[u8; 32]>,
     shown: &Shown,
-) -> Result<Option<Fault>, AllocError>
-    ensures { IfOk result (λ fault. fault ≡ faults.value_fault lists_root.now
-        (option_map (λ root. root.now) result_root.entry) (content shown.now)) }
+) -> Result<Result<Texts, Fault>, AllocError>
+    ensures { IfOk result (λ answer. MatchResult answer
+        (λ list. (list ≡ fields_in shown.now.list.now) × (faults.value_fault lists_root.now
+        (option_map (λ root. root.now) result_root.entry) (content shown.now) ≡ None)
+        × (words.is_name shown.now.name.now ≡ true))
+        (λ fault. faults.value_fault lists_root.now
+        (option_map (λ root. root.now) result_root.entry) (content shown.now) ≡ Some fault)) }
 {
     if let Some(fault) = openings_fault(alloc, lists_root, result_root, shown)? {
-        return Ok(Some(fault));
+        return Ok(Err(fault));
     }
     let list = match lists_in(alloc, keys, shown)? {
         Ok(list) => list,
-        Err(fault) => return Ok(Some(fault)),
+        Err(fault) => return Ok(Err(fault)),
     };
-    match result_root {
-        Some(_) => result_fault(alloc, keys, shown, &list),
-        None => Ok(None),
+    if result_root.is_some() {
+        if let Some(fault) = result_fault(alloc, keys, shown, &list)? {
+            return Ok(Err(fault));
+        }
     }
+    Ok(Ok(list))
 }

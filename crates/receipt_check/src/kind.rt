@@ -2,7 +2,7 @@
 ghost use Rattle.std.specs.Prelude.{◌≡◌};
 ghost use Rattle.receipt_check.specs.Receipt as receipt;
 
-/// Whose receipt it is.
+/// Whose receipt this is: the member's side.
 #[derive(Clone, Copy, Debug, PartialEq, Eq)]
 pub enum Kind {
     /// A programme's.
@@ -22,7 +22,7 @@ impl Kind {
         }
     }
 
-    /// Whether it is a programme.
+    /// Whether the member is a programme.
     pub(crate) fn is_programme(self) -> bool
         ensures { result ≡ receipt.is_programme self }
     {

@@ -24,14 +24,14 @@ fn is_shown(c: char) -> bool
         && !(8294 <= code && code <= 8297)
 }
 
-// Whether what stands between two commas can have the character.
+// Whether a text between two commas can have the character.
 fn is_part(c: char) -> bool
     ensures { result ≡ named_row.is_part c }
 {
     is_shown(c) && c != ','
 }
 
-// Whether what stands between two commas is text of such characters.
+// Whether a text between two commas is UTF-8 and has only characters that it can have.
 fn is_piece(piece: &[u8]) -> bool
     ensures { result ≡ named_row.is_piece piece.now }
 {
@@ -41,14 +41,14 @@ fn is_piece(piece: &[u8]) -> bool
     text.chars().all(|c| is_part(c))
 }
 
-// Whether all are so.
+// Whether each of the texts between commas is UTF-8 and has only characters that it can have.
 fn are_pieces(pieces: &[&[u8]]) -> bool
     ensures { result ≡ list_all named_row.is_piece (fields_in pieces.now) }
 {
     pieces.iter().all(|piece| is_piece(*piece))
 }
 
-// The row as it is printed.
+// The row of the real name as it is printed.
 fn name_text(alloc: Global, named: &[&[u8]]) -> Result<Vec<u8>, AllocError>
     ensures { IfOk result (λ text. text.items ≡ named_row.name_text (fields_in named.now)) }
 {
@@ -70,7 +70,7 @@ fn first_fields(alloc: Global, bytes: &[u8]) -> Result<ByteRecord, AllocError>
     }
 }
 
-/// The fields of the row, as csv reads them: `N`, the real name, and perhaps an ID.
+/// The fields of the row as `csv` reads them: `N`, the real name, and perhaps an ID.
 #[tactic(auto, unfolding(crate::specs::Named::real_fields))]
 pub(crate) fn real_fields(alloc: Global, named: &[&[u8]]) -> Result<ByteRecord, AllocError>
     ensures { IfOk result (λ row. fields_of row
@@ -80,7 +80,7 @@ pub(crate) fn real_fields(alloc: Global, named: &[&[u8]]) -> Result<ByteRecord, 
     first_fields(alloc, text.as_slice())
 }
 
-// Whether the row is printed exactly as csv prints these fields.
+// Whether the row is printed exactly as `csv` prints these fields.
 fn is_printed(alloc: Global, named: &[&[u8]], fields: &ByteRecord) -> Result<bool, AllocError>
     ensures { IfOk result (λ is. is ≡ named_row.is_printed
         (fields_in named.now) (fields_of fields.now)) }
@@ -91,7 +91,7 @@ fn is_printed(alloc: Global, named: &[&[u8]], fields: &ByteRecord) -> Result<boo
     Ok(printed.as_slice() == text.as_slice())
 }
 
-// Whether these are a real name, or a real name and an ID, after the `N`.
+// Whether the fields after the `N` are a real name, or a real name and an ID, and none is empty.
 fn has_parts(fields: &ByteRecord) -> bool
     ensures { result ≡ named_row.has_parts (fields_of fields.now) }
 {
@@ -99,7 +99,7 @@ fn has_parts(fields: &ByteRecord) -> bool
         && (fields.len() == 2 || fields.len() == 3 && field(fields, 2).len() != 0)
 }
 
-/// Whether the row is that of a real name.
+/// Whether the row is a right row of a real name.
 #[tactic(auto, unfolding(crate::specs::Named::is_real))]
 pub(crate) fn is_real(alloc: Global, named: &[&[u8]]) -> Result<bool, AllocError>
     ensures { IfOk result (λ is. is ≡ named_row.is_real (fields_in named.now)) }

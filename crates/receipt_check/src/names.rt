@@ -21,7 +21,8 @@ fn is_on(on: Option<&Texts>, name: &[u8]) -> bool
     }
 }
 
-// What is wrong with a name that stands after these.
+// What is wrong with a name after those seen before: it is no name, it isn't on the list, or it was
+// seen before.
 fn name_wrong(on: Option<&Texts>, seen: &Texts, name: &[u8]) -> Option<Wrong>
     ensures { result ≡ faults.name_wrong (option_map (λ on. on.now) on.entry) seen.now name.now }
 {
@@ -37,8 +38,8 @@ fn name_wrong(on: Option<&Texts>, seen: &Texts, name: &[u8]) -> Option<Wrong>
     None
 }
 
-// Adds a name that stands after these.
-fn add(seen: &mut Texts, name: &[u8]) -> Result<(), AllocError>
+/// Adds a name that is not among the names seen before.
+pub(crate) fn add(seen: &mut Texts, name: &[u8]) -> Result<(), AllocError>
     requires lawful { words.is_name name.now ≡ true }
     requires fresh { is_some (number_in seen.old name.now) ≡ false }
     ensures { OnOk result (seen.new ≡ seen.old ++ name.now ∷ []) }
@@ -47,7 +48,8 @@ fn add(seen: &mut Texts, name: &[u8]) -> Result<(), AllocError>
     Ok(())
 }
 
-/// The names, each once; or the first wrong name, by its place, and what is wrong with it.
+/// The names, if each is right and stands once; or the first wrong name's place, and what is wrong
+/// with the name.
 pub(crate) fn names_in(
     alloc: Global,
     keys: RandomState,

@@ -14,7 +14,8 @@ use hex::FromHex;
 use seal::{leaf_hash, opens};
 use std::alloc::{AllocError, Global};
 
-/// The number that at most nine digits write, without zeros before it.
+/// The number that these 1 to 9 digits write. None for any other text, and for digits with a
+/// needless zero in front.
 #[tactic(auto, unfolding(crate::specs::Faults::plain_number))]
 pub(crate) fn plain_number(digits: &[u8]) -> Option<u32>
     ensures { result ≡ faults.plain_number digits.now }
@@ -34,7 +35,7 @@ fn has_small_bytes(digits: &[u8]) -> bool
     digits.iter().all(|c| *c <= b'9' || b'a' <= *c)
 }
 
-/// The 32 bytes that 64 small hexadecimal digits write.
+/// The 32 bytes that 64 hexadecimal digits without capital letters write.
 #[tactic(auto, unfolding(crate::specs::Faults::digest_of))]
 pub fn digest_of(digits: &[u8]) -> Option<[u8; 32]>
     ensures { result ≡ faults.digest_of digits.now }
@@ -48,7 +49,7 @@ pub fn digest_of(digits: &[u8]) -> Option<[u8; 32]>
     }
 }
 
-// The digests that these fields write, if each writes one.
+// The digests that these fields write. None if one of the fields writes none.
 fn digests_of(alloc: Global, fields: &[&[u8]]) -> Result<Option<Vec<[u8; 32]>>, AllocError>
     ensures { IfOk result (λ found. option_map (λ (ds : Vec (List ℕ)). ds.items) found
         ≡ faults.digests_of (fields_in fields.now)) }
@@ -94,7 +95,7 @@ fn opening_wrong(
     Ok(Some(Wrong::Opening))
 }
 
-// The fault of a row, if something is wrong.
+// What is wrong, if anything is, as a fault of the row at this place.
 fn fault_at(place: usize, wrong: Option<Wrong>) -> Option<Fault>
     requires { place < 2 ^ 63 }
     ensures { result ≡ faults.fault_at place wrong }
@@ -105,7 +106,7 @@ fn fault_at(place: usize, wrong: Option<Wrong>) -> Option<Fault>
     }
 }
 
-// What is wrong with the opening of the result, if a root of one was published.
+// What is wrong with the opening under the result's root, if such a root was published.
 fn second_fault(
     alloc: Global,
     root: Option<&[u8; 32]>,
@@ -124,7 +125,7 @@ fn second_fault(
     Ok(fault_at(shown.end() + 1, wrong))
 }
 
-// What is wrong with the openings of a member with this number among so many.
+// What is wrong with the openings of the member with this number among `count` members.
 fn openings_at(
     alloc: Global,
     lists_root: &[u8; 32],
@@ -152,7 +153,7 @@ fn openings_at(
     second_fault(alloc, result_root, count, index, shown)
 }
 
-/// What is wrong with the openings.
+/// What is wrong with the openings of a receipt.
 #[tactic(auto, unfolding(crate::specs::Faults::openings_fault))]
 pub(crate) fn openings_fault(
     alloc: Global,

@@ -38,7 +38,7 @@ fn put_more(text: &mut Vec<u8>, fields: &[&[u8]]) -> Result<(), AllocError>
     Ok(())
 }
 
-// Adds a row: the first field, the next ones, and the rest.
+// Adds a row of these fields: the first one, those in `next`, and those in `rest`.
 fn put_row(
     text: &mut Vec<u8>,
     first: &[u8],
@@ -70,7 +70,7 @@ fn put_first(text: &mut Vec<u8>, letter: &[u8], name: &[u8]) -> Result<(), Alloc
     put_row(text, b"receipt", &[b"2", letter, name], &[])
 }
 
-// Adds the row that withdraws a member, if it is withdrawn.
+// Adds the `W` row, if the member is withdrawn.
 fn put_gone(text: &mut Vec<u8>, shown: &Shown) -> Result<(), AllocError>
     ensures { OnOk result (Grows text.old text.new
         (lines (receipt.gone_rows (content shown.now)))) }
@@ -81,7 +81,7 @@ fn put_gone(text: &mut Vec<u8>, shown: &Shown) -> Result<(), AllocError>
     Ok(())
 }
 
-/// Adds the row of the real name, if there is one.
+/// Adds the `N` row, if there is a real name.
 pub(crate) fn put_name(text: &mut Vec<u8>, named: &[&[u8]]) -> Result<(), AllocError>
     ensures { OnOk result (Grows text.old text.new
         (lines (receipt.name_rows (fields_in named.now)))) }
@@ -92,7 +92,7 @@ pub(crate) fn put_name(text: &mut Vec<u8>, named: &[&[u8]]) -> Result<(), AllocE
     Ok(())
 }
 
-// Adds the rows after a member's list.
+// Adds the rows after a member's list: of its withdrawal, and of its real name.
 fn put_last(text: &mut Vec<u8>, shown: &Shown) -> Result<(), AllocError>
     ensures { OnOk result (Grows text.old text.new
         (lines (receipt.last_rows (content shown.now)))) }
@@ -112,7 +112,7 @@ fn put_list(text: &mut Vec<u8>, shown: &Shown) -> Result<(), AllocError>
     Ok(())
 }
 
-// Adds the rows of a member before the match.
+// Adds the rows that were sealed of a member before the match.
 fn put_lists(text: &mut Vec<u8>, shown: &Shown) -> Result<(), AllocError>
     ensures { OnOk result (Grows text.old text.new
         (lines (receipt.lists_rows (content shown.now)))) }
@@ -187,7 +187,7 @@ fn put_reasons(text: &mut Vec<u8>, shown: &Shown) -> Result<(), AllocError>
     Ok(())
 }
 
-// Adds the rows of a member after the match.
+// Adds the rows that were sealed of a member after the match.
 fn put_result(text: &mut Vec<u8>, shown: &Shown) -> Result<(), AllocError>
     ensures { OnOk result
         (Grows text.old text.new (lines (receipt.result_rows (content shown.now)))) }
@@ -224,7 +224,8 @@ pub(crate) fn result_text(alloc: Global, shown: &Shown) -> Result<Vec<u8>, Alloc
     Ok(text)
 }
 
-/// Adds the two rows of a tree before the text of a leaf.
+/// Adds the two rows of a tree that stand before the text of a leaf: its root's row, and the
+/// opening's.
 pub(crate) fn put_part(
     alloc: Global,
     text: &mut Vec<u8>,
@@ -242,7 +243,7 @@ pub(crate) fn put_part(
     put_row(text, b"opens", &[word, index], opening)
 }
 
-// Adds what a receipt has of the result, if a root of one was published.
+// Adds what a receipt has of the result, if a result's root was published.
 fn put_result_part(
     alloc: Global,
     text: &mut Vec<u8>,

@@ -8,7 +8,8 @@ use crate::rows::{field, is};
 use crate::shown::Shown;
 use crate::wrong::Wrong;
 
-// Where a choice stands: before, at or after the resident's own programme, if there is one.
+// Where a choice stands: before, at or after the resident's own programme. Without an own programme each
+// choice stands before.
 #[derive(Clone, Copy, Debug, PartialEq, Eq)]
 enum Stand {
     Before,
@@ -16,7 +17,7 @@ enum Stand {
     After,
 }
 
-// Where this choice stands, with the resident's own programme at this choice.
+// Where choice `k` stands, if `own` is the choice that is the resident's own programme.
 fn stand_of(own: Option<usize>, k: usize) -> Stand
     ensures { result ≡ faults.stand_of own k }
 {
@@ -34,7 +35,7 @@ fn stand_of(own: Option<usize>, k: usize) -> Stand
     }
 }
 
-// Whether the answer is this word, without numbers.
+// Whether the answer has this word, and no number in its other three fields.
 fn is_bare(fields: &[&[u8]], word: &[u8]) -> bool
     ensures { result ≡ faults.is_bare word.now (fields_in fields.now) }
 {
@@ -45,7 +46,8 @@ fn is_bare(fields: &[&[u8]], word: &[u8]) -> bool
         && field(fields, 3).len() == 0
 }
 
-// Whether the numbers say that the places went to residents before this one, or that there are none.
+// Whether the numbers can be true: the places went to residents before this one, or the programme has no
+// places.
 fn is_before(rank: Option<u32>, digits: &[u8], last: Option<u32>, quota: Option<u32>) -> bool
     ensures { result ≡ faults.is_before rank digits.now last quota }
 {
@@ -56,7 +58,7 @@ fn is_before(rank: Option<u32>, digits: &[u8], last: Option<u32>, quota: Option<
     }
 }
 
-// Whether the programme is full of residents before this one.
+// Whether the answer is `full`, with numbers that can be true.
 fn is_full(fields: &[&[u8]]) -> bool
     ensures { result ≡ faults.is_full (fields_in fields.now) }
 {
@@ -69,21 +71,21 @@ fn is_full(fields: &[&[u8]]) -> bool
     is_before(rank, field(fields, 2), last, quota)
 }
 
-// Whether the answer is one of a programme that the resident would have taken.
+// Whether a programme before the resident's own can have this answer.
 fn is_passed(fields: &[&[u8]]) -> bool
     ensures { result ≡ faults.is_passed (fields_in fields.now) }
 {
     is_bare(fields, b"withdrawn") || is_bare(fields, b"unranked") || is_full(fields)
 }
 
-// Whether the answer is one of a programme after the resident's own.
+// Whether a programme after the resident's own can have this answer.
 fn is_later(fields: &[&[u8]]) -> bool
     ensures { result ≡ faults.is_later (fields_in fields.now) }
 {
     is_bare(fields, b"better") || is_bare(fields, b"unranked") || is_bare(fields, b"withdrawn")
 }
 
-// Whether the answer can stand there.
+// Whether an answer can stand at this place; `gone` says whether the resident is withdrawn.
 fn can_stand(gone: bool, stand: Stand, fields: &[&[u8]]) -> bool
     ensures { result ≡ faults.can_stand gone stand (fields_in fields.now) }
 {
@@ -97,7 +99,7 @@ fn can_stand(gone: bool, stand: Stand, fields: &[&[u8]]) -> bool
     }
 }
 
-// What is wrong with an answer there.
+// What is wrong with an answer at this place, if anything is.
 fn reason_wrong(gone: bool, stand: Stand, fields: &[&[u8]]) -> Option<Wrong>
     ensures { result ≡ faults.reason_wrong gone stand (fields_in fields.now) }
 {
@@ -110,7 +112,8 @@ fn reason_wrong(gone: bool, stand: Stand, fields: &[&[u8]]) -> Option<Wrong>
     Some(Wrong::Reason)
 }
 
-/// The first wrong reason of a resident, whose own programme is this choice, by the choice's number from 0.
+/// The first choice of a resident whose answer is wrong, by its number from 0, and what is wrong. `own` is
+/// the choice that is the resident's own programme.
 pub(crate) fn wrong_reason(shown: &Shown, own: Option<usize>) -> Option<(usize, Wrong)>
     ensures found { result ≡ faults.wrong_reason (content shown.now) own }
     ensures within { IfSome result (λ found. found.0 < length shown.now.list.now) }

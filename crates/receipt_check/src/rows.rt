@@ -58,7 +58,7 @@ fn without_returns(alloc: Global, bytes: &[u8]) -> Result<Vec<u8>, AllocError>
     Ok(text)
 }
 
-/// The text of a receipt as it was printed.
+/// The text of a receipt as it was printed, from the bytes of a file.
 #[tactic(auto, unfolding(crate::specs::Rows::plain_text))]
 pub(crate) fn plain_text(alloc: Global, bytes: &[u8]) -> Result<Vec<u8>, AllocError>
     ensures { IfOk result (λ text. text.items ≡ form.plain_text bytes.now) }
@@ -88,7 +88,7 @@ pub(crate) fn split_rows<'a>(
     Ok(found)
 }
 
-// The fields from one of them on.
+// The fields from field `from` on.
 fn tail<'r, 'a>(fields: &'r [&'a [u8]], from: usize) -> &'r [&'a [u8]]
     ensures { result.now ≡ drop from fields.now }
 {
@@ -99,7 +99,7 @@ fn tail<'r, 'a>(fields: &'r [&'a [u8]], from: usize) -> &'r [&'a [u8]]
     }
 }
 
-/// The fields of the row at this place from one of them on.
+/// The fields of row `k`, from field `from` on.
 pub(crate) fn fields_from<'r, 'a>(
     rows: &'r [Vec<&'a [u8]>],
     k: usize,
@@ -113,7 +113,7 @@ pub(crate) fn fields_from<'r, 'a>(
     tail(rows[k].as_slice(), from)
 }
 
-/// The field at this place of these fields.
+/// Field `i` of these fields, or an empty field if it is missing.
 pub(crate) fn field<'a>(fields: &[&'a [u8]], i: usize) -> &'a [u8]
     ensures { result.now ≡ form.text_at (fields_in fields.now) i }
 {
@@ -123,7 +123,7 @@ pub(crate) fn field<'a>(fields: &[&'a [u8]], i: usize) -> &'a [u8]
     }
 }
 
-/// The field at this place of a row.
+/// Field `i` of row `k`, or an empty field if it is missing.
 pub(crate) fn cell<'a>(rows: &[Vec<&'a [u8]>], k: usize, i: usize) -> &'a [u8]
     ensures { result.now ≡ form.cell (rows_in rows.now) k i }
 {

@@ -9,7 +9,7 @@ use crate::shown::Shown;
 use crate::wrong::{Fault, Wrong, at};
 use std::alloc::{AllocError, Global};
 
-// How many line feeds the byte is.
+// 1 if the byte is a line feed, else 0.
 fn feeds(byte: u8) -> usize
     ensures { result ≡ shape.feeds byte }
 {
@@ -71,7 +71,7 @@ fn root_wrong(
     Ok(Wrong::Count)
 }
 
-// What is wrong with a row of the result, which begins at this row.
+// What is wrong with a row of the result.
 fn result_wrong(
     alloc: Global,
     root: &[u8; 32],
@@ -120,7 +120,7 @@ fn later_wrong(
     }
 }
 
-// What is wrong with the first row that isn't as the receipt has it.
+// What is wrong with the first row that isn't as a receipt with this content has it.
 #[tactic(auto, unfolding(crate::specs::Shape::shape_wrong))]
 fn shape_wrong(
     alloc: Global,

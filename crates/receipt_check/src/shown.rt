@@ -6,34 +6,35 @@ ghost use Rattle.receipt_check.specs.Shown.{content, fields_in, rows_in};
 use crate::kind::Kind;
 use crate::rows::{cell, field, fields_from, is};
 
-/// What a receipt tells. Numbers and digests are as they are written. The last three are of the result.
+/// The content of a receipt. Numbers and digests are as they are written. The last three fields are of
+/// the result.
 #[derive(Clone, Copy)]
 pub(crate) struct Shown<'r, 'a> {
     /// Of which side the member is.
     pub(crate) kind: Kind,
     /// The member's name.
     pub(crate) name: &'a [u8],
-    /// How many members there are.
+    /// How many members there are, in digits.
     pub(crate) count: &'a [u8],
-    /// The member's number, from 0.
+    /// The member's number from 0, in digits.
     pub(crate) index: &'a [u8],
-    /// The salt and the path of the lists.
+    /// The salt and the path that open the root of the lists.
     pub(crate) opening: &'r [&'a [u8]],
     /// The quota of a programme.
     pub(crate) quota: &'a [u8],
     /// Whether a programme has a row for its list.
     pub(crate) has_list: bool,
-    /// The list.
+    /// The names on the member's list.
     pub(crate) list: &'r [&'a [u8]],
     /// Whether the member is withdrawn.
     pub(crate) gone: bool,
     /// The row of the real name after its `N`, in pieces at its commas; nothing without such a row.
     pub(crate) named: &'r [&'a [u8]],
-    /// The salt and the path of the result.
+    /// The salt and the path that open the root of the result.
     pub(crate) second: &'r [&'a [u8]],
     /// The programme of a resident, if there is one.
     pub(crate) own: Option<&'a [u8]>,
-    /// The rows after the result's first row.
+    /// The rows after the result's first row: a programme's residents, or the answers to a resident.
     pub(crate) after: &'r [Vec<&'a [u8]>],
 }
 
@@ -55,14 +56,16 @@ fn has_list_in(rows: &[Vec<&[u8]>]) -> bool
     kind_in(rows).is_programme() && is(cell(rows, 4, 0), b"P")
 }
 
-/// The place of the row with the list, or of a programme's only row.
+/// The place of the row with the member's list. For a programme without a list it is that of the
+/// quota's row.
 pub(crate) fn list_place(has_list: bool) -> usize
     ensures { result ≡ receipt.list_place has_list }
 {
     if has_list { 4 } else { 3 }
 }
 
-/// The place of the row after the member's list and its withdrawal.
+/// The place of the row after the member's list and its withdrawal, where the row of a real name
+/// stands.
 pub(crate) fn named_place(has_list: bool, gone: bool) -> usize
     ensures { result ≡ receipt.named_place has_list gone }
 {
@@ -126,14 +129,14 @@ fn own_in<'a>(row: &[&'a [u8]]) -> Option<&'a [u8]>
     }
 }
 
-// The rows from this one on.
+// The rows from row `k` on.
 fn rows_from<'r, 'a>(rows: &'r [Vec<&'a [u8]>], k: usize) -> &'r [Vec<&'a [u8]>]
     ensures { rows_in result.now ≡ drop k (rows_in rows.now) }
 {
     if k < rows.len() { &rows[k..] } else { &[] }
 }
 
-/// What these rows tell.
+/// The content that these rows give.
 #[tactic(auto, unfolding(crate::specs::Receipt::read))]
 pub(crate) fn read<'r, 'a>(rows: &'r [Vec<&'a [u8]>]) -> Shown<'r, 'a>
     ensures { content result ≡ receipt.read (rows_in rows.now) }

@@ -18,8 +18,8 @@ use docket_names::number_of;
 use records::field as part;
 use std::alloc::{AllocError, Global};
 
-// Adds the end of a sentence.
-fn put_stop(text: &mut Vec<u8>) -> Result<(), AllocError>
+/// Adds the end of a sentence.
+pub(crate) fn put_stop(text: &mut Vec<u8>) -> Result<(), AllocError>
     ensures { OnOk result (Grows text.old text.new words.stop) }
 {
     put(text, b".\n")
@@ -36,7 +36,7 @@ fn put_more(text: &mut Vec<u8>, names: &[&[u8]]) -> Result<(), AllocError>
     Ok(())
 }
 
-// Adds the names of a list.
+// Adds the names on a list, or `nobody` if there are none.
 fn put_names(text: &mut Vec<u8>, names: &[&[u8]]) -> Result<(), AllocError>
     ensures { OnOk result (Grows text.old text.new (words.names_text (fields_in names.now))) }
 {
@@ -62,8 +62,8 @@ fn ending_of(rank: u32) -> &'static [u8]
     }
 }
 
-// Adds a rank with its ending.
-fn put_rank(text: &mut Vec<u8>, digits: &[u8]) -> Result<(), AllocError>
+/// Adds a rank with its ending.
+pub(crate) fn put_rank(text: &mut Vec<u8>, digits: &[u8]) -> Result<(), AllocError>
     ensures { OnOk result (Grows text.old text.new (words.rank_text digits.now)) }
 {
     put(text, digits)?;
@@ -94,7 +94,7 @@ fn put_places(text: &mut Vec<u8>, fields: &[&[u8]]) -> Result<(), AllocError>
     put_rank(text, field(fields, 2))
 }
 
-// Adds the sentence of an answer.
+// Adds the sentence on an answer.
 fn put_answer(text: &mut Vec<u8>, fields: &[&[u8]]) -> Result<(), AllocError>
     ensures { OnOk result (Grows text.old text.new (words.answer_text (fields_in fields.now))) }
 {
@@ -116,7 +116,7 @@ fn put_answer(text: &mut Vec<u8>, fields: &[&[u8]]) -> Result<(), AllocError>
     put_places(text, fields)
 }
 
-// Adds the sentence of a resident's choice, from 0.
+// Adds the sentence on choice `k` of a resident, counted from 0.
 fn put_reason(text: &mut Vec<u8>, shown: &Shown, k: usize) -> Result<(), AllocError>
     ensures { OnOk result (Grows text.old text.new (words.reason_text (content shown.now) k)) }
 {
@@ -140,7 +140,7 @@ fn put_before(text: &mut Vec<u8>, kind: Kind, quota: &[u8]) -> Result<(), AllocE
     }
 }
 
-// Adds the words of a withdrawal.
+// Adds the sentence on a withdrawal, if the member is withdrawn.
 fn put_gone(text: &mut Vec<u8>, gone: bool) -> Result<(), AllocError>
     ensures { OnOk result (Grows text.old text.new (words.gone_words gone)) }
 {
@@ -151,7 +151,7 @@ fn put_gone(text: &mut Vec<u8>, gone: bool) -> Result<(), AllocError>
     Ok(())
 }
 
-// Adds the member, and the list that was sealed.
+// Adds the sentences on the member's sealed list.
 #[tactic(auto, unfolding(crate::specs::Told::told_lists))]
 fn put_lists(text: &mut Vec<u8>, shown: &Shown) -> Result<(), AllocError>
     ensures { OnOk result (Grows text.old text.new (words.told_lists (content shown.now))) }
@@ -178,7 +178,7 @@ fn put_own(text: &mut Vec<u8>, own: Option<&[u8]>) -> Result<(), AllocError>
     put_stop(text)
 }
 
-// Adds the sentences of a resident's choices.
+// Adds the sentences on all choices of a resident.
 fn put_reasons(text: &mut Vec<u8>, shown: &Shown) -> Result<(), AllocError>
     ensures { OnOk result (Grows text.old text.new (flat_map (words.reason_text (content shown.now))
         (range_with_len 0 (length shown.now.list.now)))) }
@@ -189,7 +189,7 @@ fn put_reasons(text: &mut Vec<u8>, shown: &Shown) -> Result<(), AllocError>
     Ok(())
 }
 
-// Adds the residents of a programme.
+// Adds the names of a programme's residents.
 fn put_members(alloc: Global, text: &mut Vec<u8>, shown: &Shown) -> Result<(), AllocError>
     ensures { OnOk result (Grows text.old text.new
         (words.names_text (members (content shown.now)))) }
@@ -218,7 +218,7 @@ fn put_result(alloc: Global, text: &mut Vec<u8>, shown: &Shown) -> Result<(), Al
     }
 }
 
-// Adds the ID, if there is one.
+// Adds the ID in brackets, if there is one.
 fn put_id(text: &mut Vec<u8>, id: &[u8]) -> Result<(), AllocError>
     ensures { OnOk result (Grows text.old text.new (words.id_words id.now)) }
 {
@@ -230,7 +230,7 @@ fn put_id(text: &mut Vec<u8>, id: &[u8]) -> Result<(), AllocError>
     put(text, b")")
 }
 
-// Adds who the member with this name in the docket is.
+// Adds the sentence on who the member with this name in the docket is.
 fn put_real(text: &mut Vec<u8>, name: &[u8], fields: &ByteRecord) -> Result<(), AllocError>
     ensures { OnOk result (Grows text.old text.new
         (words.real_words name.now (fields_of fields.now))) }
@@ -242,7 +242,7 @@ fn put_real(text: &mut Vec<u8>, name: &[u8], fields: &ByteRecord) -> Result<(), 
     put(text, b" in the lists.\n")
 }
 
-// Adds the real name, if it was sealed.
+// Adds the sentence on the member's real name, if this was sealed.
 #[tactic(auto, unfolding(crate::specs::Told::told_name))]
 fn put_name(alloc: Global, text: &mut Vec<u8>, shown: &Shown) -> Result<(), AllocError>
     ensures { OnOk result (Grows text.old text.new (words.told_name (content shown.now))) }
@@ -254,7 +254,8 @@ fn put_name(alloc: Global, text: &mut Vec<u8>, shown: &Shown) -> Result<(), Allo
     put_real(text, shown.name, &fields)
 }
 
-/// What a receipt with this content shows. It has a result if a root of one was published.
+/// What a receipt with this content shows, in words. The receipt has a result if a result's root
+/// was published.
 pub(crate) fn told(
     alloc: Global,
     has_result: Option<&[u8; 32]>,

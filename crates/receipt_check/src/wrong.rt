@@ -1,6 +1,7 @@
 //! What is wrong with a receipt.
 ghost use Rattle.std.specs.Prelude.{◌≡◌, ◌<◌, ◌^◌};
 ghost use Rattle.receipt_check.specs.Shape as shape;
+ghost use Rattle.receipt_check.specs.declared.wrong.CompareFault.TheVariants as compare;
 ghost use Rattle.receipt_check.specs.declared.wrong.ReceiptFault.TheVariants.{Memory};
 
 use std::alloc::AllocError;
@@ -9,16 +10,18 @@ use thiserror::Error;
 /// What is wrong with a row of a receipt.
 #[derive(Clone, Copy, Debug, PartialEq, Eq, Error)]
 pub enum Wrong {
-    /// It isn't `receipt,2,P,NAME` or `receipt,2,R,NAME`.
+    /// The first row isn't `receipt,2,P,NAME` or `receipt,2,R,NAME`.
     #[error("not the first row of a receipt: this file was changed by a program; ask for it again or paste the text")]
     Header,
-    /// It is `receipt,1,..`, a receipt of an earlier form.
+    /// The first row is `receipt,1,..`, that of an earlier form of receipts.
     #[error("a receipt of an earlier form, whose root has no number of members: ask for a new one")]
     Age,
-    /// It isn't a root's row: the part, a count and 64 small hexadecimal digits.
+    /// The row isn't a root's: the tree's word, a number of members, and 64 hexadecimal digits
+    /// without capital letters.
     #[error("not the row of a root: this file was changed by a program; ask for it again or paste the text")]
     RootRow,
-    /// It isn't an opening: the part, a place, a salt and hashes.
+    /// The row isn't an opening: the tree's word, the member's number, a salt, and the hashes of a
+    /// path.
     #[error("not the row of an opening: this file was changed by a program; ask for it again or paste the text")]
     OpeningRow,
     /// The file is longer than any receipt.
@@ -27,25 +30,25 @@ pub enum Wrong {
     /// A row, or the end of one, is missing.
     #[error("the receipt is cut off here: ask for it again")]
     Missing,
-    /// Its root isn't the published one.
+    /// The root in the row isn't the published one.
     #[error("another root than the published one")]
     Root,
-    /// The two trees have not the same count.
+    /// The rows of the two roots have different numbers of members.
     #[error("another count than that of the lists")]
     Count,
-    /// The member has not the same place in the two trees.
+    /// The rows of the two openings have different numbers of the member.
     #[error("another place than in the lists")]
     Place,
-    /// The rows and the salt don't climb to the root by this path.
+    /// The leaf with this salt and these rows doesn't open the root by this path.
     #[error("what follows doesn't open the published root")]
     Opening,
-    /// It isn't a row of the member's lists.
+    /// The row is none of the member's rows before the match.
     #[error("not a row of this member's list")]
     List,
-    /// It isn't a row of the member's result.
+    /// The row is none of the member's rows after the match.
     #[error("not a row of this member's result")]
     Result,
-    /// There is a result, and no root of a result was given.
+    /// There is a result in the receipt, but the caller gave no root of a result.
     #[error("a result, and no root of a result was given")]
     Unasked,
     /// A name isn't one that a docket can have.
@@ -60,33 +63,46 @@ pub enum Wrong {
     /// A name isn't on the list.
     #[error("a name that isn't on the list")]
     NotListed,
-    /// Quota and filled places don't fit the rows.
+    /// The quota is no number, or is less than the number of residents in the rows.
     #[error("the numbers don't fit the rows")]
     Numbers,
-    /// Who is withdrawn has nobody.
+    /// A withdrawn member is matched.
     #[error("a result of a member who is withdrawn")]
     Gone,
-    /// The reason can't stand here.
+    /// The answer can't stand at this choice.
     #[error("a reason that can't stand here")]
     Reason,
-    /// The programme is full, but not of residents whom it ranks before this one.
+    /// The answer is `full`, with numbers by which the places did not go to residents before this
+    /// one.
     #[error("full, but not of residents who are ranked before")]
     Full,
+    /// The receipt is a programme's, and a resident's is wanted.
+    #[error("not a resident's receipt")]
+    NotResident,
+    /// The receipt is a resident's, and a programme's is wanted.
+    #[error("not a programme's receipt")]
+    NotProgramme,
+    /// The receipt has another number of members than was published.
+    #[error("another number of members than the published one")]
+    Members,
+    /// An earlier file has the receipt of the same member.
+    #[error("a member whose receipt is in a file before this one")]
+    Again,
 }
 
-/// A row of a receipt, from 1, with what is wrong with it.
+/// What is wrong with a row of a receipt.
 #[derive(Clone, Copy, Debug, PartialEq, Eq, Error)]
 #[error("row {row}: {wrong}")]
 pub struct Fault {
-    /// The row's number.
+    /// The row's number, from 1.
     pub row: usize,
     /// What is wrong.
     pub wrong: Wrong,
 }
 
 impl Fault {
-    /// Whether the file isn't as it was given: a program changed it, or a part is missing.
-    /// Else the receipt is wrong.
+    /// Whether the file isn't as it was given: a program changed it, or a part is missing. If the
+    /// file is as it was given, the receipt is wrong.
     pub fn is_changed(&self) -> bool
         ensures { result ≡ shape.is_changed self.now.wrong }
     {
@@ -105,13 +121,13 @@ impl Fault {
 /// Why a receipt isn't good, or wasn't checked.
 #[derive(Clone, Copy, Debug, PartialEq, Eq, Error)]
 pub enum ReceiptFault {
-    /// The first thing that is wrong with it.
+    /// The first thing that is wrong with the receipt.
     #[error(transparent)]
     Wrong(Fault),
-    /// A growth was refused.
+    /// The memory could not grow.
     #[error("out of memory")]
     Memory,
-    /// The writer answered a fault.
+    /// The writer failed.
     #[error("the output could not be written")]
     Write,
 }
@@ -124,7 +140,29 @@ impl From<AllocError> for ReceiptFault {
     }
 }
 
-/// The fault of the row at this place, which is from 0.
+/// Why receipts weren't compared.
+#[derive(Clone, Copy, Debug, PartialEq, Eq, Error)]
+pub enum CompareFault {
+    /// The number of the first file that is at fault, from 0, and what is wrong with its receipt.
+    #[error("{1}")]
+    Wrong(usize, Fault),
+    /// The memory could not grow.
+    #[error("out of memory")]
+    Memory,
+    /// The writer failed.
+    #[error("the output could not be written")]
+    Write,
+}
+
+impl From<AllocError> for CompareFault {
+    ghost from_gives = { λ _ fault. fault ≡ compare.Memory };
+
+    fn from(_error: AllocError) -> CompareFault {
+        CompareFault::Memory
+    }
+}
+
+/// What is wrong, as a fault of the row at this place, which is counted from 0.
 pub(crate) fn at(place: usize, wrong: Wrong) -> Fault
     requires { place < 2 ^ 63 }
     ensures { result ≡ shape.at place wrong }

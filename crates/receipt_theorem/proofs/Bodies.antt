@@ -1,6 +1,6 @@
 -- A receipt that is written has the text of its content, and is short enough.
-use Rattle.std.proofs.Common.{◌≡◌, ℕ, ◌+◌, ◌*◌, ◌<◌, ◌≤◌, Bool, true, false, List, [], ◌∷◌, ◌++◌, length, map, get_or, Option, Some, None, option_map, refl, sym, ap, ◌∙◌, arith, append_assoc, append-nil, subst}
-use Rattle.std.specs.Prelude.{codes, decimal, slice_get, slice_index_or, ⊤}
+use Rattle.std.proofs.Common.{◌≡◌, ℕ, ◌+◌, ◌*◌, ◌<◌, ◌≤◌, ◌&&◌, Bool, true, false, List, [], ◌∷◌, ◌++◌, length, map, get_or, Option, Some, None, option_map, refl, sym, ap, ◌∙◌, arith, append_assoc, append-nil, subst}
+use Rattle.std.specs.Prelude.{codes, decimal, not, slice_get, slice_index_or, ⊤}
 use Rattle.std.specs.List.{All}
 use Rattle.std.proofs.lemmas.List.{length-append}
 use Rattle.std.proofs.lemmas.List.Elements.{All-map, All-append}
@@ -13,8 +13,9 @@ use Rattle.seal_text.specs.declared.leaves.Section.{Section}
 use Rattle.seal_text.specs.declared.leaves.Section.TheVariants.{Lists, Outcome}
 use Rattle.seal_text.proofs.OpenFacts.{receipt_opens}
 use Rattle.receipt_check.specs.Rows.{Cells, line, lines, plain_text}
-use Rattle.receipt_check.specs.Receipt.{Receipt, first_row, letter_of, lists_text, part_rows, receipt_text, result_part, result_text}
+use Rattle.receipt_check.specs.Receipt.{Receipt, first_row, has_real_name, letter_of, lists_text, part_rows, receipt_text, result_part, result_text}
 use Rattle.receipt_check.specs.Faults.{opening_wrong}
+use Rattle.receipt_check.specs.Named.{is_real}
 use Rattle.receipt_check.specs.declared.kind.Kind.{Kind}
 use Rattle.receipt_check.specs.declared.kind.Kind.TheVariants.{Programme, Resident}
 use Rattle.seal_text.specs.Sealed.{published, receipt_of}
@@ -23,21 +24,23 @@ use Rattle.receipt_theorem.proofs.Openings.{IsDigest, hash_digest, opening_field
 use Rattle.receipt_theorem.proofs.Rows.{ArePlain, IsPlain, plain_row}
 use Rattle.receipt_theorem.proofs.Values.{AreOpened, Opened}
 
--- what the opening of a result has, if there is one
+-- the fields of the opening of a leaf of the result, or none without a result
 abbrev pub second_at : List ℕ → Option (List (List ℕ)) → ℕ → Cells
 second_at secret None i = []
 second_at secret (Some texts) i = opening_fields (salt_of secret Outcome i) (path_of i (hashes_of secret Outcome texts))
 
--- what the receipt of the member at place i has of the trees
-abbrev pub opened_at : List ℕ → List (List ℕ) → Option (List (List ℕ)) → ℕ → Opened
-opened_at secret lists results i = record {
+-- what the receipt of the member at place i tells of the trees and of the real name's row
+abbrev pub opened_at : List ℕ → List (List ℕ) → Option (List (List ℕ)) → ℕ → Cells → Opened
+opened_at secret lists results i named = record {
   count = length lists;
   index = i;
   opening = opening_fields (salt_of secret Lists i) (path_of i (hashes_of secret Lists lists));
   second = second_at secret results i;
+  named = named;
 }
 
--- the content has what the trees have at this place, and its texts are the sealed ones
+-- the content c has the count, the place and the openings of the trees at place i; its texts are the sealed ones; and
+-- the row of its real name is right
 pub record IsAt (secret : List ℕ) (lists : List (List ℕ)) (results : Option (List (List ℕ))) (i : ℕ) (c : Receipt) : Type 0 where
   pub count_is : c.count ≡ decimal (length lists)
   pub index_is : c.index ≡ decimal i
@@ -47,6 +50,7 @@ pub record IsAt (secret : List ℕ) (lists : List (List ℕ)) (results : Option 
   pub listed : slice_get lists i ≡ Some (lists_text c)
   pub each : (texts : List (List ℕ)) → results ≡ Some texts → length texts ≡ length lists
   pub placed : (texts : List (List ℕ)) → results ≡ Some texts → slice_get texts i ≡ Some (result_text c)
+  pub named : (has_real_name c.named && not (is_real c.named)) ≡ false
 
 pub digests : (secret : List ℕ) (section : Section) (texts : List (List ℕ)) → All IsDigest (hashes_of secret section texts)
 digests secret section texts = All-map IsDigest leaf_hash (leaves_from secret section 0 texts) (λ k d l. hash_digest _)
@@ -58,13 +62,14 @@ opened_there secret section texts i text there =
     (receipt_opens secret section texts i text there)
 
 module _ (secret : List ℕ) (lists : List (List ℕ)) (results : Option (List (List ℕ))) (i : ℕ) (c : Receipt) (at : IsAt secret lists results i c) where
-  -- its openings are right
-  pub opened_right : i < 1000000000 → AreOpened (published secret Lists lists) (option_map (published secret Outcome) results) (opened_at secret lists results i) c
+  -- what the receipt at place i tells of the trees is right, if the place is below 1000000000
+  pub opened_right : i < 1000000000 → AreOpened (published secret Lists lists) (option_map (published secret Outcome) results) (opened_at secret lists results i c.named) c
   opened_right small = record {
     few = at.few;
     small = small;
     lists = ap (λ (fields : Cells). opening_wrong (published secret Lists lists) (length lists) i fields (lists_text c)) at.opening_is ∙ opened_there secret Lists lists i (lists_text c) at.listed;
     result = by_results results refl;
+    named = at.named;
   }
     where
       by_results : (o : Option (List (List ℕ))) → results ≡ o → (root : List ℕ) → option_map (published secret Outcome) o ≡ Some root → opening_wrong root (length lists) i c.second (result_text c) ≡ None
@@ -97,7 +102,7 @@ module _ (secret : List ℕ) (lists : List (List ℕ)) (results : Option (List (
   results_at None e = refl
   results_at (Some texts) e = part_at Outcome texts c.second (result_text c) (at.each texts e) (at.placed texts e) (at.second_is ∙ ap (λ (o : Option (List (List ℕ))). second_at secret o i) e)
 
-  -- its text is that of its content
+  -- the receipt that is written at place i is the text of its content, if the member's name is plain
   pub body_is : IsPlain c.name → receipt_of secret (letter_of c.kind) c.name lists results i ≡ receipt_text (published secret Lists lists) (option_map (published secret Outcome) results) c
   unfolding receipt_text
   body_is plain =

@@ -33,7 +33,7 @@ clean_more m n text le h = record { kept = h.kept; short = (let x = h.short in o
 pub clean_line : (most : ℕ) (fields : Cells) → ArePlain fields → AreShort most fields → IsClean (length fields * (most + 1) + 1) (line fields)
 clean_line most fields plain short = record { kept = line_kept fields plain; short = line_short most fields short }
 
--- rows of fields that are plain and short
+-- each field of each row is plain and short
 abbrev pub AreShortNames : Cells → Type 0
 AreShortNames [] = ⊤
 AreShortNames (field ∷ rest) = IsShortName field × AreShortNames rest
@@ -70,7 +70,7 @@ hex_short (digest ∷ rest) h =
     (let size = length-encode_with lower_digits digest in let whole = (All-head IsDigest digest rest h).size in omega (arith, size, whole))
     (hex_short rest (All-tail IsDigest digest rest h))
 
--- a text without a mark is read as it is printed
+-- a text without a byte order mark and without carriage returns is read as it is
 pub text_kept : (text : List ℕ) → without_mark text ≡ text → All IsNoReturn text → plain_text text ≡ text
 unfolding plain_text
 text_kept text unmarked h = ap without_returns unmarked ∙ no_returns text h

@@ -17,7 +17,7 @@ use Rattle.receipt_check.specs.declared.wrong.Wrong.{Wrong}
 use Rattle.receipt_check.specs.declared.wrong.Wrong.TheVariants as wrong
 use Rattle.receipt_theorem.specs.Laws.{CollidesAt}
 
--- a digest has 32 bytes
+-- the bytes that 64 hexadecimal digits give are 32
 digest_size : (digits digest : List ℕ) → digest_of digits ≡ Some digest → length digest ≡ 32
 unfolding digest_of
 digest_size digits digest h = by_small (list_all is_small digits) h
@@ -47,7 +47,7 @@ first_digest (field ∷ rest) salt path h = by_first (digest_of field) refl h
     by_first None e k = cc k
     by_first (Some digest) e k = by_rest digest (digests_of rest) e k
 
--- what an opening without a fault shows
+-- the fields of an opening without a fault give a salt and a path, by which the text opens the root
 record Opens (root : List ℕ) (count index : ℕ) (fields : Cells) (text : List ℕ) : Type 0 where
   salt : List ℕ
   path : List (List ℕ)
@@ -86,7 +86,7 @@ opens root count index fields text h = by_digests (digests_of fields) refl h
 abbrev pub text_in : Leaf → List ℕ
 text_in leaf = leaf.text
 
--- the leaves are as many as was said, and the leaf at this place has this text
+-- there are count leaves, and the leaf at place index has this text
 pub record IsTextAt (leaves : List Leaf) (count index : ℕ) (text : List ℕ) : Type 0 where
   pub count_is : count ≡ length leaves
   pub text_is : slice_get (map text_in leaves) index ≡ Some text

@@ -6,7 +6,7 @@ use Rattle.std.proofs.lemmas.List.Elements.{All-head, All-tail}
 use Rattle.hex.specs.Hex.{encode_lower, encode_with, lower_digits}
 use Rattle.match_model.specs.Draft.{Draft, given_lists}
 use Rattle.match_model.specs.Instance.{is_withdrawn, list_at, quota}
-use Rattle.reasons_text.specs.RealNames.{nobody_named}
+use Rattle.reasons_text.specs.RealNames.{Real}
 use Rattle.records.specs.Lines as csv
 use Rattle.records.specs.RowText.{row}
 use Rattle.docket_names.specs.Words.{is_name_byte}
@@ -16,11 +16,11 @@ use Rattle.docket.specs.Texts.{programme_name, resident_name}
 use Rattle.seal.specs.Hashes.{AreBytes}
 use Rattle.seal.specs.Tree.{path_of, root, seal_hash}
 use Rattle.seal_text.specs.Sealed.{digest_field, hashes_of, opening_row, part_text, path_fields, root_row, root_row_of, salt_of, word_of}
-use Rattle.seal_text.specs.Texts.{line_if, list_of_programme, list_of_resident, list_record, programme_lists, quota_row, resident_lists, withdrawal_if}
+use Rattle.seal_text.specs.Texts.{line_if, list_of_programme, list_of_resident, list_record, name_record, programme_lists, quota_row, resident_lists, withdrawal_if}
 use Rattle.seal_text.specs.declared.leaves.Section.{Section}
 use Rattle.seal_text.specs.declared.leaves.Section.TheVariants.{Lists, Outcome}
 use Rattle.receipt_check.specs.Rows.{Cells, line, lines, more_fields}
-use Rattle.receipt_check.specs.Receipt.{Receipt, last_rows, list_rows, lists_text, part_rows}
+use Rattle.receipt_check.specs.Receipt.{Receipt, last_rows, list_rows, lists_text, name_rows, part_rows}
 use Rattle.receipt_check.specs.declared.kind.Kind.{Kind}
 use Rattle.receipt_check.specs.declared.kind.Kind.TheVariants.{Programme, Resident}
 use Rattle.seal_text.specs.Sealed.{published}
@@ -37,7 +37,10 @@ names_plain f h [] = tt
 names_plain f h (x ∷ xs) = (h x, names_plain f h xs)
 
 module _ (d : Contents) (draft : Draft) (names : HasPlainNames d) where
-  module _ (o : Opened) (p : ℕ) (others : Cells) where
+  module _ (o : Opened) (real : Real) (p : ℕ) (others : Cells) (told : line_if (name_record (slice_index_or real.programmes p None)) ≡ lines (name_rows o.named)) where
+    abbrev own : List ℕ
+    own = line_if (name_record (slice_index_or real.programmes p None))
+
     abbrev name : List ℕ
     name = programme_name d p
 
@@ -47,38 +50,40 @@ module _ (d : Contents) (draft : Draft) (names : HasPlainNames d) where
     list_plain : (xs : List ℕ) → csv.line (list_record (codes "P") name (map (resident_name d) xs)) ≡ line (codes "P" ∷ name ∷ map (resident_name d) xs)
     list_plain xs = plain_line (codes "P") (name ∷ map (resident_name d) xs) (refl, ((names.programmes p).plain, names_plain (resident_name d) (λ r. (names.residents r).plain) xs))
 
-    gone_plain : row (codes "W" ∷ codes "P" ∷ name ∷ []) ++ [] ≡ lines ((codes "W" ∷ codes "P" ∷ name ∷ []) ∷ [])
-    gone_plain = ap (λ (t : List ℕ). t ++ []) (plain_row (codes "W") (codes "P") (name ∷ []) (refl, (refl, ((names.programmes p).plain, tt))))
+    gone_plain : row (codes "W" ∷ codes "P" ∷ name ∷ []) ++ own ≡ lines ((codes "W" ∷ codes "P" ∷ name ∷ []) ∷ name_rows o.named)
+    gone_plain = ap (λ (t : List ℕ). row (codes "W" ∷ codes "P" ∷ name ∷ []) ++ t) told ∙ ap (λ (t : List ℕ). t ++ lines (name_rows o.named)) (plain_row (codes "W") (codes "P") (name ∷ []) (refl, (refl, ((names.programmes p).plain, tt))))
 
-    rest : (list : Option (List ℕ)) (gone : Bool) → line_if (option_map (list_record (codes "P") name) (option_map (map (resident_name d)) list)) ++ (withdrawal_if gone (codes "P") name ++ [])
+    rest : (list : Option (List ℕ)) (gone : Bool) → line_if (option_map (list_record (codes "P") name) (option_map (map (resident_name d)) list)) ++ (withdrawal_if gone (codes "P") name ++ own)
         ≡ lines (list_rows (given list gone) ++ last_rows (given list gone))
-    rest None false = refl
+    rest None false = told
     rest None true = gone_plain
-    rest (Some xs) false = ap (λ (t : List ℕ). t ++ []) (list_plain xs)
-    rest (Some xs) true = ap (λ (t : List ℕ). t ++ (row (codes "W" ∷ codes "P" ∷ name ∷ []) ++ [])) (list_plain xs) ∙ ap (λ (t : List ℕ). line (codes "P" ∷ name ∷ map (resident_name d) xs) ++ t) gone_plain
+    rest (Some xs) false = ap (λ (t : List ℕ). t ++ own) (list_plain xs) ∙ ap (λ (t : List ℕ). line (codes "P" ∷ name ∷ map (resident_name d) xs) ++ t) told
+    rest (Some xs) true = ap (λ (t : List ℕ). t ++ (row (codes "W" ∷ codes "P" ∷ name ∷ []) ++ own)) (list_plain xs) ∙ ap (λ (t : List ℕ). line (codes "P" ∷ name ∷ map (resident_name d) xs) ++ t) gone_plain
 
-    -- what is sealed of a programme
+    -- what is sealed of a programme before the match is the text of the lists in its receipt
     pub programme_lists_are : quota d.instance p < 1000000000
-        → programme_lists d draft nobody_named p ≡ lists_text (programme_content o name (quota d.instance p) (list_of_programme d draft p) (is_withdrawn d.instance.programmes_withdrawn p) others)
+        → programme_lists d draft real p ≡ lists_text (programme_content o name (quota d.instance p) (list_of_programme d draft p) (is_withdrawn d.instance.programmes_withdrawn p) others)
     unfolding programme_lists lists_text
     programme_lists_are small =
         let first : quota_row name (quota d.instance p) ≡ line (codes "Q" ∷ name ∷ decimal (quota d.instance p) ∷ []) =
         plain_row (codes "Q") name (decimal (quota d.instance p) ∷ []) (refl, ((names.programmes p).plain, (number_plain (quota d.instance p) small, tt))) in
-        ap (λ (t : List ℕ). t ++ (line_if (option_map (list_record (codes "P") name) (list_of_programme d draft p)) ++ (withdrawal_if (is_withdrawn d.instance.programmes_withdrawn p) (codes "P") name ++ []))) first
+        ap (λ (t : List ℕ). t ++ (line_if (option_map (list_record (codes "P") name) (list_of_programme d draft p)) ++ (withdrawal_if (is_withdrawn d.instance.programmes_withdrawn p) (codes "P") name ++ own))) first
         ∙ ap (λ (t : List ℕ). line (codes "Q" ∷ name ∷ decimal (quota d.instance p) ∷ []) ++ t) (rest (slice_index_or draft.programme_lists p None) (is_withdrawn d.instance.programmes_withdrawn p))
 
-  -- what is sealed of a resident
-  pub resident_lists_are : (o : Opened) (r : ℕ) (own : Option (List ℕ)) (after : List Cells)
-      → resident_lists d draft nobody_named r ≡ lists_text (resident_content o (resident_name d r) (list_of_resident d draft r) (is_withdrawn d.instance.residents_withdrawn r) own after)
+  -- what is sealed of a resident before the match is the text of the lists in the resident's receipt
+  pub resident_lists_are : (o : Opened) (real : Real) (r : ℕ) (own : Option (List ℕ)) (after : List Cells) → line_if (name_record (slice_index_or real.residents r None)) ≡ lines (name_rows o.named)
+      → resident_lists d draft real r ≡ lists_text (resident_content o (resident_name d r) (list_of_resident d draft r) (is_withdrawn d.instance.residents_withdrawn r) own after)
   unfolding resident_lists lists_text
-  resident_lists_are o r own after =
-      ap (λ (t : List ℕ). t ++ (withdrawal_if (is_withdrawn d.instance.residents_withdrawn r) (codes "R") (resident_name d r) ++ []))
+  resident_lists_are o real r own after told =
+      ap (λ (t : List ℕ). t ++ (withdrawal_if (is_withdrawn d.instance.residents_withdrawn r) (codes "R") (resident_name d r) ++ line_if (name_record (slice_index_or real.residents r None))))
       (plain_line (codes "R") (resident_name d r ∷ list_of_resident d draft r) (refl, ((names.residents r).plain, names_plain (programme_name d) (λ p. (names.programmes p).plain) (list_at (given_lists draft.resident_lists) r))))
       ∙ ap (λ (t : List ℕ). line (codes "R" ∷ resident_name d r ∷ list_of_resident d draft r) ++ t) (gone_is (is_withdrawn d.instance.residents_withdrawn r))
     where
-      gone_is : (gone : Bool) → withdrawal_if gone (codes "R") (resident_name d r) ++ [] ≡ lines (last_rows (resident_content o (resident_name d r) (list_of_resident d draft r) gone own after))
-      gone_is false = refl
-      gone_is true = ap (λ (t : List ℕ). t ++ []) (plain_row (codes "W") (codes "R") (resident_name d r ∷ []) (refl, (refl, ((names.residents r).plain, tt))))
+      gone_is : (gone : Bool) → withdrawal_if gone (codes "R") (resident_name d r) ++ line_if (name_record (slice_index_or real.residents r None)) ≡ lines (last_rows (resident_content o (resident_name d r) (list_of_resident d draft r) gone own after))
+      gone_is false = told
+      gone_is true =
+          ap (λ (t : List ℕ). row (codes "W" ∷ codes "R" ∷ resident_name d r ∷ []) ++ t) told
+          ∙ ap (λ (t : List ℕ). t ++ lines (name_rows o.named)) (plain_row (codes "W") (codes "R") (resident_name d r ∷ []) (refl, (refl, ((names.residents r).plain, tt))))
 
 -- Trees.
 
@@ -115,7 +120,7 @@ word_plain : (section : Section) → IsPlain (word_of section)
 word_plain Lists = refl
 word_plain Outcome = refl
 
--- what a receipt has of a tree
+-- the part that is written of a leaf's tree is the rows of this part in a receipt
 pub part_is : (secret : List ℕ) (section : Section) (texts : List (List ℕ)) (i : ℕ) → length texts < 1000000000
     → part_text secret section texts i
     ≡ lines (part_rows (word_of section) (published secret section texts) (decimal (length texts)) (decimal i) (opening_fields (salt_of secret section i) (path_of i (hashes_of secret section texts))))

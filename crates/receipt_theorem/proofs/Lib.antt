@@ -12,8 +12,13 @@ pub mod Texts
 pub mod Leaves
 pub mod Bodies
 pub mod Clean
+pub mod Seen
+pub mod Named
 pub mod Members
 pub mod Whole
 pub mod Sealing
 pub mod After
 pub mod Shown
+pub mod Ranked
+pub mod Answered
+pub mod Agreeing

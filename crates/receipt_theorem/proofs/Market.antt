@@ -43,7 +43,8 @@ use Rattle.receipt_theorem.proofs.Rows.{IsPlain, IsShortName}
 
 -- Names.
 
--- a record without a fault in the first pass has no fault of its own, and there is room for it
+-- a record without a fault in the first pass has no fault of its own, and there is room for one
+-- record more
 own_none : (before : List Fields) (row : Fields) → reading_fault Standard before row ≡ None
     → (row_fault (next_place before) (workers_in before) row ≡ None) × (nat_le (most_records Standard) (length before) ≡ false)
 unfolding reading_fault
@@ -67,6 +68,7 @@ resident_named n workers row none kind =
     let is : kind_of row ≡ resident_letter = eqb-true (kind_of row) resident_letter kind in
     list_row_sound n row (rw is at none)
 
+-- if each record of a kind adds its second field to the declared names, and no record has a fault,
 -- each declared name is a name
 all_named : (P : List Fields → List (List ℕ)) (kind : ℕ)
     → ((n : ℕ) (workers : Option ℕ) (row : Fields) → row_fault n workers row ≡ None → is_kind kind row ≡ true → is_name (field row 1) ≡ true)
@@ -87,7 +89,7 @@ few_rows rows none = over_records (reading_fault Standard) (λ some. length some
     more : (before : List Fields) (row : Fields) → reading_fault Standard before row ≡ None → length before ≤ most_records Standard → length (before ++ row ∷ []) ≤ most_records Standard
     more before row e h = search (rules, (own_none before row e).1, length_push before row)
 
--- where a name stands among different names
+-- of different names, the one at place i is found at place i
 number_there : (names : List (List ℕ)) (i : ℕ) → distinct names ≡ true → i < length names → number_in names (get_or names i []) ≡ Some i
 unfolding distinct
 number_there [] i d l = absurd (omega (arith, l))
@@ -102,7 +104,7 @@ number_there (x ∷ xs) (suc i) d l =
     differ (y ∷ ys) zero n l = bytes_eq-swap x y (or_parts (bytes_eq x y) (list_any (bytes_eq x) ys) (off (bytes_eq x y || list_any (bytes_eq x) ys) n)).0
     differ (y ∷ ys) (suc k) n l = differ ys k (rw (or_parts (bytes_eq x y) (list_any (bytes_eq x) ys) (off (bytes_eq x y || list_any (bytes_eq x) ys) n)).1 refl) (omega (arith, l))
 
--- each number below the number of names has a name of its own
+-- different names, each of which is a name, are names of the numbers below their count
 names_of_numbers : (names : List (List ℕ)) → list_all is_name names ≡ true → distinct names ≡ true → AreNamesOf (length names) (λ k. get_or names k [])
 names_of_numbers names named apart = record {
   named = λ k l. list_all_true_at is_name names k [] l named;
@@ -119,7 +121,7 @@ once (x ∷ xs) h =
     let parts = and_parts (not (is_listed xs x)) (has_no_repeats xs) h in
     HasNoRepeats-cons x xs (λ l. let there : is_listed xs x ≡ true = lt-ltb (place xs x) (length xs) l in let gone : is_listed xs x ≡ false = off (is_listed xs x) parts.0 in cc (sym there ∙ gone)) (once xs parts.1)
 
--- a list as it was written has numbers below a limit, and each of them once
+-- each number on the list is below n, and none is on it twice
 pub record IsWrittenList (n : ℕ) (list : List ℕ) : Type 0 where
   pub below : Below n list
   pub different : HasNoRepeats list
@@ -133,7 +135,7 @@ written_list lists n i h = elim (cases_lt i (length (given_lists lists))) [
   | inr past ↦ rw (get_or_past (given_lists lists) i [] past) (record { below = All-nil (λ x. x < n); different = HasNoRepeats-nil })
 ]
 
--- the names of a docket's members, and of nobody, are plain
+-- each programme's and each resident's name is plain and short, also of a number that no member has
 pub record HasPlainNames (d : Contents) : Type 0 where
   pub programmes : (p : ℕ) → IsShortName (programme_name d p)
   pub residents : (r : ℕ) → IsShortName (resident_name d r)
@@ -149,7 +151,8 @@ short_names names named k = elim (cases_lt k (length names)) [
   | inr past ↦ rw (get_or_past names k [] past) (record { plain = refl; short = omega arith })
 ]
 
--- what is known of a docket's members
+-- what is known of the members of a docket without a fault: their numbers are in order, their lists
+-- are written ones, and their names are different and plain
 pub record IsMarket (d : Contents) (draft : Draft) : Type 0 where
   pub instance : IsInstance d.instance
   pub made : AreWritten d.instance (written_of draft)
@@ -158,6 +161,8 @@ pub record IsMarket (d : Contents) (draft : Draft) : Type 0 where
   pub names : HasPlainNames d
   pub programme_lists : (p : ℕ) → IsWrittenList (length d.instance.resident_lists) (list_at (given_lists draft.programme_lists) p)
   pub resident_lists : (r : ℕ) → IsWrittenList (length d.instance.quotas) (list_at (given_lists draft.resident_lists) r)
+  pub programme_numbers : (p : ℕ) → p < length d.instance.quotas → number_in d.programmes (programme_name d p) ≡ Some p
+  pub one_list_each : length (given_lists draft.resident_lists) ≡ length d.instance.resident_lists
   pub few_programmes : length d.instance.quotas ≤ 2000
   pub few_residents : length d.instance.resident_lists ≤ 20000
   pub few_places : (p : ℕ) → quota d.instance p ≤ 10000
@@ -194,6 +199,8 @@ market rows none =
       names = record { programmes = short_names (programmes_of rows) named; residents = short_names (residents_of rows) named' };
       programme_lists = λ p. subst (λ n. IsWrittenList n (list_at (given_lists (draft_of rows).programme_lists) p)) (sym kept) (written_list (draft_of rows).programme_lists (length (draft_of rows).resident_lists) p sound.draft.programme_lists);
       resident_lists = λ r. written_list (draft_of rows).resident_lists (length (draft_of rows).quotas) r sound.draft.resident_lists;
+      programme_numbers = λ p l. number_there (programmes_of rows) p (distinct_programmes rows first few) (omega (arith, ours, l));
+      one_list_each = length-given_lists (draft_of rows).resident_lists ∙ sym kept;
       few_programmes = sound.draft.programmes_within;
       few_residents = subst (λ n. n ≤ 20000) (sym kept) sound.draft.residents_within;
       few_places = λ p. sound.instance.quotas_within p;

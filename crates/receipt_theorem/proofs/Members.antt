@@ -14,7 +14,7 @@ use Rattle.reasons_text.specs.Table.{last_field, quota_field, rank_field, rank_t
 use Rattle.docket.specs.Contents.{Contents}
 use Rattle.docket.specs.Texts.{programme_name, resident_name}
 use Rattle.receipt_check.specs.Rows.{Cells, line, lines}
-use Rattle.receipt_check.specs.Receipt.{Receipt, last_rows, list_rows, lists_text, member_row, placed_row, result_text}
+use Rattle.receipt_check.specs.Receipt.{Receipt, last_rows, list_rows, lists_text, member_row, name_rows, placed_row, result_text}
 use Rattle.receipt_theorem.proofs.Clean.{AreShortNames, IsClean, clean_both, clean_more, clean_none, clean_row, clean_rows, short_names, short_number}
 use Rattle.receipt_theorem.proofs.Market.{HasPlainNames}
 use Rattle.receipt_theorem.proofs.Reasons.{HasRoom, next, reason_fields}
@@ -41,7 +41,7 @@ reason_short (Full rank (Some last) places) h =
 reason_short Blocking h = (record { plain = refl; short = omega arith }, (none_short, (none_short, (none_short, tt))))
 
 module _ (d : Contents) (names : HasPlainNames d) (o : Opened) where
-  module _ (p : ℕ) (places : ℕ) (small : places < 1000000000) (others : Cells) where
+  module _ (p : ℕ) (places : ℕ) (small : places < 1000000000) (others : Cells) (told : IsClean 40010 (lines (name_rows o.named))) where
     abbrev given : Option (List ℕ) → Bool → Receipt
     given list gone = programme_content o (programme_name d p) places (option_map (map (resident_name d)) list) gone others
 
@@ -50,26 +50,26 @@ module _ (d : Contents) (names : HasPlainNames d) (o : Opened) where
         clean_more _ 660067 _ (let many = length-map xs (resident_name d) in omega (arith, many, few))
         (clean_row (codes "P" ∷ programme_name d p ∷ map (resident_name d) xs) (record { plain = refl; short = omega arith }, (names.programmes p, short_names (resident_name d) names.residents xs)))
 
-    gone_clean : IsClean 100 (lines ((codes "W" ∷ codes "P" ∷ programme_name d p ∷ []) ∷ []))
+    gone_clean : IsClean 40110 (lines ((codes "W" ∷ codes "P" ∷ programme_name d p ∷ []) ∷ name_rows o.named))
     gone_clean =
-        clean_both 100 0 (line (codes "W" ∷ codes "P" ∷ programme_name d p ∷ [])) []
-        (clean_row (codes "W" ∷ codes "P" ∷ programme_name d p ∷ []) (record { plain = refl; short = omega arith }, (record { plain = refl; short = omega arith }, (names.programmes p, tt)))) clean_none
+        clean_both 100 40010 (line (codes "W" ∷ codes "P" ∷ programme_name d p ∷ [])) _
+        (clean_row (codes "W" ∷ codes "P" ∷ programme_name d p ∷ []) (record { plain = refl; short = omega arith }, (record { plain = refl; short = omega arith }, (names.programmes p, tt)))) told
 
-    rest_clean : (list : Option (List ℕ)) (gone : Bool) → ((xs : List ℕ) → list ≡ Some xs → length xs ≤ 20000) → IsClean 660167 (lines (list_rows (given list gone) ++ last_rows (given list gone)))
-    rest_clean None false few = clean_more 0 660167 [] (omega arith) clean_none
-    rest_clean None true few = clean_more 100 660167 _ (omega arith) gone_clean
-    rest_clean (Some xs) false few = clean_more 660067 660167 _ (omega arith) (clean_both 660067 0 _ [] (list_clean xs (few xs refl)) clean_none)
-    rest_clean (Some xs) true few = clean_both 660067 100 _ _ (list_clean xs (few xs refl)) gone_clean
+    rest_clean : (list : Option (List ℕ)) (gone : Bool) → ((xs : List ℕ) → list ≡ Some xs → length xs ≤ 20000) → IsClean 700177 (lines (list_rows (given list gone) ++ last_rows (given list gone)))
+    rest_clean None false few = clean_more 40010 700177 _ (omega arith) told
+    rest_clean None true few = clean_more 40110 700177 _ (omega arith) gone_clean
+    rest_clean (Some xs) false few = clean_more 700077 700177 _ (omega arith) (clean_both 660067 40010 _ _ (list_clean xs (few xs refl)) told)
+    rest_clean (Some xs) true few = clean_both 660067 40110 _ _ (list_clean xs (few xs refl)) gone_clean
 
-    -- what is sealed of a programme before the match
-    pub programme_lists_clean : (list : Option (List ℕ)) (gone : Bool) → ((xs : List ℕ) → list ≡ Some xs → length xs ≤ 20000) → IsClean 660267 (lists_text (given list gone))
+    -- the text that is sealed of a programme before the match is clean and has at most 700277 bytes
+    pub programme_lists_clean : (list : Option (List ℕ)) (gone : Bool) → ((xs : List ℕ) → list ≡ Some xs → length xs ≤ 20000) → IsClean 700277 (lists_text (given list gone))
     unfolding lists_text
     programme_lists_clean list gone few =
-        clean_both 100 660167 (line (codes "Q" ∷ programme_name d p ∷ decimal places ∷ [])) _
+        clean_both 100 700177 (line (codes "Q" ∷ programme_name d p ∷ decimal places ∷ [])) _
         (clean_row (codes "Q" ∷ programme_name d p ∷ decimal places ∷ []) (record { plain = refl; short = omega arith }, (names.programmes p, (short_number places small, tt))))
         (rest_clean list gone few)
 
-  -- and after it
+  -- the text that is sealed of a programme after the match is clean and has at most 1000133 bytes
   pub programme_result_clean : (p places : ℕ) (list : Option Cells) (gone : Bool) (xs : List ℕ) → places < 1000000000 → length xs ≤ 10000
       → IsClean 1000133 (result_text (programme_content o (programme_name d p) places list gone (map (resident_name d) xs)))
   unfolding result_text
@@ -87,23 +87,23 @@ module _ (d : Contents) (names : HasPlainNames d) (o : Opened) where
       clean_both 133 1000000 _ _ first
       (rw (members_kept (programme_name d p) (map (resident_name d) xs)) (clean_more _ 1000000 _ (omega (arith, count, few)) rows))
 
-  -- what is sealed of a resident before the match
-  pub resident_lists_clean : (r : ℕ) (xs : List ℕ) (gone : Bool) (own : Option (List ℕ)) (after : List Cells) → length xs ≤ 2000
-      → IsClean 66167 (lists_text (resident_content o (resident_name d r) (map (programme_name d) xs) gone own after))
+  -- the text that is sealed of a resident before the match is clean and has at most 106177 bytes
+  pub resident_lists_clean : (r : ℕ) (xs : List ℕ) (gone : Bool) (own : Option (List ℕ)) (after : List Cells) → IsClean 40010 (lines (name_rows o.named)) → length xs ≤ 2000
+      → IsClean 106177 (lists_text (resident_content o (resident_name d r) (map (programme_name d) xs) gone own after))
   unfolding lists_text
-  resident_lists_clean r xs gone own after few =
-      clean_both 66067 100 (line (codes "R" ∷ resident_name d r ∷ map (programme_name d) xs)) _
+  resident_lists_clean r xs gone own after told few =
+      clean_both 66067 40110 (line (codes "R" ∷ resident_name d r ∷ map (programme_name d) xs)) _
       (clean_more _ 66067 _ (let many = length-map xs (programme_name d) in omega (arith, many, few))
       (clean_row (codes "R" ∷ resident_name d r ∷ map (programme_name d) xs) (record { plain = refl; short = omega arith }, (names.residents r, short_names (programme_name d) names.programmes xs))))
       (rest gone)
     where
-      rest : (b : Bool) → IsClean 100 (lines (last_rows (resident_content o (resident_name d r) (map (programme_name d) xs) b own after)))
-      rest false = clean_more 0 100 [] (omega arith) clean_none
+      rest : (b : Bool) → IsClean 40110 (lines (last_rows (resident_content o (resident_name d r) (map (programme_name d) xs) b own after)))
+      rest false = clean_more 40010 40110 _ (omega arith) told
       rest true =
-          clean_both 100 0 (line (codes "W" ∷ codes "R" ∷ resident_name d r ∷ [])) []
-          (clean_row (codes "W" ∷ codes "R" ∷ resident_name d r ∷ []) (record { plain = refl; short = omega arith }, (record { plain = refl; short = omega arith }, (names.residents r, tt)))) clean_none
+          clean_both 100 40010 (line (codes "W" ∷ codes "R" ∷ resident_name d r ∷ [])) _
+          (clean_row (codes "W" ∷ codes "R" ∷ resident_name d r ∷ []) (record { plain = refl; short = omega arith }, (record { plain = refl; short = omega arith }, (names.residents r, tt)))) told
 
-  -- and after it
+  -- the text that is sealed of a resident after the match is clean and has at most 464100 bytes
   pub resident_result_clean : (m : List (Option ℕ)) (r : ℕ) (listed : List ℕ) (reasons : List Why) (each : length reasons ≡ length listed) (gone : Bool) (own : Option ℕ) → length listed ≤ 2000
       → ((k : ℕ) → k < length listed → HasRoom (get_or reasons k Matched))
       → IsClean 464100 (result_text (resident_content o (resident_name d r) (map (programme_name d) listed) gone (option_map (programme_name d) own) (told_rows d m names r listed reasons)))

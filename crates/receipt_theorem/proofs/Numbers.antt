@@ -9,7 +9,7 @@ use Rattle.std.proofs.lemmas.Slice.Eq.{bytes_eq-Decides}
 use Rattle.docket_names.specs.Words.{digits_worth, is_digit, is_number, number_of}
 use Rattle.receipt_check.specs.Faults.{if_written, plain_number}
 
--- the digits are those of the number
+-- the text has only digits, and is worth n
 pub record AreOf (n : ℕ) (text : List ℕ) : Type 0 where
   worth : digits_worth text ≡ n
   digits : list_all is_digit text ≡ true
@@ -26,7 +26,7 @@ more n digits l h = record {
   digits = list_all-append is_digit digits ((48 + n % 10) ∷ []) ∙ rw (h.digits, digit (n % 10) (omega arith)) refl;
 }
 
--- a number of at most nine digits is written as a number
+-- the decimal digits of a number below 1000000000 are a number that a receipt may have
 pub written : (n : ℕ) → n < 1000000000 → is_number (decimal n) ≡ true
 unfolding is_number
 written n l =
@@ -35,7 +35,7 @@ written n l =
     let few : nat_le (length (decimal n)) 9 ≡ true = search (rules, length-decimal-le 9 n (omega arith) (omega (arith, l)) (omega (arith, l))) in
     rw (some, few, h.digits) refl
 
--- and is read back
+-- the decimal digits of a number below 1000000000 are read back as this number
 pub read_back : (n : ℕ) → n < 1000000000 → plain_number (decimal n) ≡ Some n
 unfolding plain_number number_of
 read_back n l =

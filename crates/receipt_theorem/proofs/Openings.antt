@@ -19,7 +19,7 @@ use Rattle.seal.proofs.Parents.{length-pair_up}
 use Rattle.receipt_check.specs.Rows.{Cells}
 use Rattle.receipt_check.specs.Faults.{cons_if, digest_of, digests_of, is_small, opening_wrong}
 
--- the bytes are a digest
+-- the list has 32 members, each of which is a byte
 pub record IsDigest (digest : List ℕ) : Type 0 where
   pub size : length digest ≡ 32
   pub bytes : AreBytes digest
@@ -60,7 +60,8 @@ paired [] h = h
 paired (x ∷ []) h = h
 paired (x ∷ y ∷ rest) h = All-cons IsDigest (node x y) (pair_up rest) (hash_digest _) (paired rest (All-tail IsDigest y rest (All-tail IsDigest x (y ∷ rest) h)))
 
--- the digest at a place, if there is one, before other digests
+-- if each hash is a digest, the one at place i, if there is one, before other digests makes a list
+-- of digests
 with_next : (hashes : List (List ℕ)) (i : ℕ) (rest : List (List ℕ)) → All IsDigest hashes → All IsDigest rest → All IsDigest (cons_option (slice_get hashes i) rest)
 with_next hashes i rest h all = by_next (slice_get hashes i) refl
   where
@@ -76,11 +77,11 @@ pub path_digests : (levels i : ℕ) (hashes : List (List ℕ)) → All IsDigest 
 path_digests zero i hashes h = All-nil IsDigest
 path_digests (suc levels) i hashes h = with_next hashes _ (path_from levels (i / 2) (pair_up hashes)) h (path_digests levels (i / 2) (pair_up hashes) (paired hashes h))
 
--- the fields that a leaf's opening is printed with
+-- the fields of a leaf's opening: the digits of its salt, and those of its path
 abbrev pub opening_fields : List ℕ → List (List ℕ) → Cells
 opening_fields salt path = map encode_lower (salt ∷ path)
 
--- the opening of a leaf that opens a root is without fault
+-- the opening fields of a leaf whose path leads to a root have no fault under this root
 pub opening_good : (root salt text : List ℕ) (count index : ℕ) (hashes : List (List ℕ)) → IsDigest salt → All IsDigest hashes
     → opened index count (leaf_hash (record { salt = salt; text = text })) (path_of index hashes) ≡ Some root
     → opening_wrong root count index (opening_fields salt (path_of index hashes)) text ≡ None

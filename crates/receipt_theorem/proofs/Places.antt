@@ -14,12 +14,12 @@ use Rattle.docket.proofs.NumberFacts.{number_in-cons}
 use Rattle.receipt_check.specs.Rows.{Cells, text_at}
 use Rattle.receipt_check.specs.Faults.{first_in, found_at, is_on, name_at, name_wrong, wrong_name}
 
--- nothing is found if nothing is found at any place
+-- if there is nothing at any place below n, nothing is the first there
 pub none_in : {X : Type 0} (f : ℕ → Option X) (n : ℕ) → ((k : ℕ) → k < n → f k ≡ None) → first_in f n ≡ None
 none_in f zero h = refl
 none_in f (suc n) h = rw (none_in f n (λ k l. h k (omega (arith, l)))) (h n (omega arith))
 
--- each number below n has a name of its own
+-- each number below n has a name, and no two of them have the same
 pub record AreNamesOf (n : ℕ) (name : ℕ → List ℕ) : Type 0 where
   pub named : (k : ℕ) → k < n → is_name (name k) ≡ true
   pub apart : (j k : ℕ) → j < n → k < n → name j ≡ name k → j ≡ k
@@ -28,7 +28,7 @@ abbrev pub Below : ℕ → List ℕ → Type 0
 Below n xs = All (λ x. x < n) xs
 
 module _ (n : ℕ) (name : ℕ → List ℕ) (are : AreNamesOf n name) where
-  -- where a name stands among the names of numbers
+  -- the name of a listed number is found among the names of the list, at the number's place
   pub numbered : (xs : List ℕ) (x : ℕ) → x < n → Below n xs → IsListed xs x → number_in (map name xs) (name x) ≡ Some (place xs x)
   numbered [] x l b h = absurd (IsListed-nil x h)
   numbered (y ∷ ys) x l b h = number_in-cons (name y) (map name ys) (name x) ∙ elim (place_cases y ys x) [
@@ -48,7 +48,7 @@ module _ (n : ℕ) (name : ℕ → List ℕ) (are : AreNamesOf n name) where
       later : place (y ∷ ys) x ≡ 1 + place ys x → IsListed ys x
       later e = omega (arith, e, h)
 
-  -- the name of a number that isn't listed stands nowhere
+  -- the name of a number that isn't listed isn't found among the names of the list
   pub unnumbered : (xs : List ℕ) (x : ℕ) → x < n → Below n xs → (IsListed xs x → ⊥) → number_in (map name xs) (name x) ≡ None
   unfolding number_in
   unnumbered [] x l b h = refl
@@ -68,7 +68,7 @@ module _ (n : ℕ) (name : ℕ → List ℕ) (are : AreNamesOf n name) where
   pub declared : (xs : List ℕ) (x : ℕ) → x < n → Below n xs → IsListed xs x → is_declared (map name xs) (name x) ≡ true
   declared xs x l b h = ap is_some (numbered xs x l b h)
 
-  -- no name on a list of numbers without repeats is wrong
+  -- no name is wrong among those of different numbers, each of whose names may be on the list
   pub names_right : (on : Option Cells) (xs : List ℕ) → Below n xs → HasNoRepeats xs → ((x : ℕ) → IsListed xs x → is_on on (name x) ≡ true)
       → wrong_name on (map name xs) ≡ None
   unfolding wrong_name

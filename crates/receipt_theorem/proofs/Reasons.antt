@@ -15,11 +15,12 @@ use Rattle.receipt_check.specs.Rows.{Cells}
 use Rattle.receipt_check.specs.Faults.{can_stand, if_written, is_bare, is_before, is_full, is_later, is_passed, plain_number, stand_of}
 use Rattle.receipt_theorem.proofs.Numbers.{read_back}
 
--- the last four fields of a choice's row
+-- the last four fields of the row of a choice with this reason
 abbrev pub reason_fields : Why → Cells
 reason_fields why = word why ∷ rank_field false why ∷ last_field false why ∷ quota_field why ∷ []
 
--- the numbers of `full` are small, and as a receipt has them
+-- the three numbers of the reason `full` are small, and the place of the last resident is told as a
+-- receipt tells it
 abbrev pub HasPlaces : ℕ → Option ℕ → ℕ → Type 0
 HasPlaces rank None quota = (quota ≡ 0) × (rank < 100000000)
 HasPlaces rank (Some last) quota = (1 ≤ quota) × (quota ≤ last + 1) × (last < rank) × (rank < 100000000)
@@ -28,11 +29,11 @@ abbrev pub HasRoom : Why → Type 0
 HasRoom (Full rank last quota) = HasPlaces rank last quota
 HasRoom other = ⊤
 
-no_number : plain_number [] ≡ None
+pub no_number : plain_number [] ≡ None
 unfolding plain_number number_of is_number
 no_number = refl
 
--- a small place, counted from 1
+-- a place below 100000000, counted from 1, is one more than the place counted from 0
 pub next : (rank : ℕ) → rank < 100000000 → from_one rank ≡ rank + 1
 next rank l = omega (arith, l)
 
@@ -78,7 +79,7 @@ bare_matched : is_bare (codes "matched") (reason_fields Matched) ≡ true
 unfolding word rank_field last_field quota_field
 bare_matched = refl
 
--- the place of the item at a place of a list without repeats
+-- on a list without repeats, the place of the item at place k is k
 pub place_there : (xs : List ℕ) (k : ℕ) → HasNoRepeats xs → k < length xs → place xs (get_or xs k 0) ≡ k
 place_there xs k once l =
     let x = get_or xs k 0 in
@@ -89,7 +90,8 @@ place_there xs k once l =
       | inr past ↦ omega arith
     ]
 
--- what is known of the reason for a choice
+-- the reason for a choice is right: it is withdrawn if the resident has withdrawn, it can stand at
+-- the choice, and its numbers are small
 pub record IsRight (gone : Bool) (mine : List ℕ) (own : Option ℕ) (p : ℕ) (why : Why) : Type 0 where
   pub withdrawn : gone ≡ true → why ≡ Withdrawn
   pub stands : CanStandFor mine own p why

@@ -23,11 +23,11 @@ use Rattle.receipt_theorem.proofs.Market.{IsWrittenList}
 use Rattle.receipt_theorem.proofs.Places.{Below}
 use Rattle.receipt_theorem.proofs.Reasons.{HasPlaces, HasRoom, IsRight}
 
--- who is listed is below the limit of the list
+-- each number on a list as it was written is below the list's limit
 pub below_of : (n : ℕ) (xs : List ℕ) → IsWrittenList n xs → (x : ℕ) → IsListed xs x → x < n
 below_of n xs h x l = subst (λ z. z < n) (get_or-place xs x 0 l) (h.below (place xs x) 0 l)
 
--- a list of different numbers below n has at most n
+-- a list of different numbers below n has at most n numbers
 pub list_short : (n : ℕ) (xs : List ℕ) → IsWrittenList n xs → length xs ≤ n
 list_short n xs h =
     let among = different_among xs (range_with_len 0 n) h.different (λ x l. range_has 0 n x (omega arith) (small x l)) in
@@ -51,7 +51,7 @@ module _ (inst : Instance) (written : Written) (m : List (Option ℕ)) (is : IsI
   abbrev theirs : ℕ → List ℕ
   theirs p = list_at written.programme_lists p
 
-  -- who is placed is listed
+  -- a resident whom a placement gives a programme lists it, and the programme lists the resident
   pub listed : (r p : ℕ) → IsMemberOf m r p → IsListed (mine r) p × IsListed (theirs p) r
   listed r p e = both inst written m (λ p. members_of m p) why is made stable are r p e
 
@@ -86,7 +86,7 @@ module _ (inst : Instance) (written : Written) (m : List (Option ℕ)) (is : IsI
   has_room r p (Full rank last quota) few first l = places r p rank last quota few first l
   has_room r p Blocking few first l = tt
 
-  -- the first true reason can stand
+  -- the first true reason for a choice is right for a receipt
   pub right : (r p : ℕ) (w : Why) → length (theirs p) ≤ 20000 → IsFirst inst (mine r) (theirs p) m r p w → IsListed (mine r) p
       → IsRight (is_withdrawn inst.residents_withdrawn r) (mine r) (programme_of m r) p w
   right r p w few first l = record {
@@ -99,7 +99,7 @@ module _ (inst : Instance) (written : Written) (m : List (Option ℕ)) (is : IsI
     room = has_room r p w few first l;
   }
 
-  -- who has a programme is not withdrawn, and a withdrawn programme has nobody
+  -- neither a resident with a programme nor the programme is withdrawn
   pub stays : (r p : ℕ) → IsMemberOf m r p → is_withdrawn inst.residents_withdrawn r ≡ false
   stays r p e = by (is_withdrawn inst.residents_withdrawn r) refl
     where

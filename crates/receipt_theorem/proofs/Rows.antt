@@ -10,11 +10,12 @@ use Rattle.records.specs.RowText.{row, row_setup}
 use Rattle.docket_names.specs.Words.{is_name_byte}
 use Rattle.receipt_check.specs.Rows.{Cells, line, more_fields, without_returns}
 
--- the text has only letters, digits and the three marks of names, or nothing
+-- each byte of the text, if it has any, is a letter, a digit or one of the three marks that a name
+-- can have
 abbrev pub IsPlain : List ℕ → Type 0
 IsPlain text = list_all is_name_byte text ≡ true
 
--- and at most 32 bytes
+-- the text is plain and has at most 32 bytes
 pub record IsShortName (text : List ℕ) : Type 0 where
   pub plain : IsPlain text
   pub short : length text ≤ 32
@@ -40,7 +41,7 @@ unfolding fields_text
 more_as_they_are [] h = refl
 more_as_they_are (field ∷ rest) h = rw (unquoted field h.0, more_as_they_are rest h.1) refl
 
--- a row of two fields or more
+-- a plain row of two fields or more is written as a receipt prints it
 pub plain_row : (a b : List ℕ) (rest : Cells) → ArePlain (a ∷ b ∷ rest) → row (a ∷ b ∷ rest) ≡ line (a ∷ b ∷ rest)
 unfolding row is_blank
 plain_row a b rest h =
@@ -73,7 +74,7 @@ pub no_returns : (text : List ℕ) → All IsNoReturn text → without_returns t
 no_returns [] h = refl
 no_returns (b ∷ rest) h = rw (All-head IsNoReturn b rest h) (ap (λ (t : List ℕ). b ∷ t) (no_returns rest (All-tail IsNoReturn b rest h)))
 
--- a record as csv writes it
+-- a plain record is written by csv as a receipt prints it
 pub plain_line : (a : List ℕ) (rest : Cells) → ArePlain (a ∷ rest) → csv.line (a ∷ rest) ≡ line (a ∷ rest)
 unfolding csv.line fields_text
 plain_line a rest h = ap (λ (t : List ℕ). (t ++ fields_text default_writer rest) ++ 10 ∷ []) (by_default a h.0) ∙ ap (λ (t : List ℕ). (a ++ t) ++ 10 ∷ []) (more_by_default rest h.1) ∙ append_assoc a (more_fields rest) (10 ∷ [])

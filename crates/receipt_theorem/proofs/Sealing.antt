@@ -9,7 +9,7 @@ use Rattle.std.proofs.lemmas.List.FromFn.{get_or-map-range_with_len, length-map-
 use Rattle.std.proofs.lemmas.Option.{slice_get-get_or}
 use Rattle.match_model.specs.Draft.{Draft, given_lists}
 use Rattle.match_model.specs.Instance.{is_withdrawn, list_at, quota}
-use Rattle.reasons_text.specs.RealNames.{nobody_named}
+use Rattle.reasons_text.specs.RealNames.{Real}
 use Rattle.match_model.specs.Ranking.{IsListed}
 use Rattle.docket.specs.Contents.{Contents}
 use Rattle.docket.specs.Texts.{programme_name, resident_name}
@@ -25,6 +25,7 @@ use Rattle.receipt_theorem.proofs.Bodies.{IsAt, opened_at, opened_right, second_
 use Rattle.receipt_theorem.proofs.Clean.{IsClean, clean_more, clean_none}
 use Rattle.receipt_theorem.proofs.Leaves.{programme_lists_are, resident_lists_are}
 use Rattle.receipt_theorem.proofs.Market.{IsMarket, IsWrittenList}
+use Rattle.receipt_theorem.proofs.Named.{AreNameRows, named_cells}
 use Rattle.receipt_theorem.proofs.Members.{programme_lists_clean, programme_result_clean, resident_lists_clean, resident_result_clean}
 use Rattle.receipt_theorem.proofs.Places.{names_right}
 use Rattle.receipt_theorem.proofs.Right.{list_short}
@@ -47,7 +48,8 @@ second_side xs ys n r e l =
     slice_get-get_or (xs ++ ys) (n + r) [] (omega (arith, whole, e, l))
     ∙ ap Some (ap (λ k. get_or (xs ++ ys) (k + r) []) (sym e) ∙ get_or-append-add xs ys r [])
 
--- the list that was given, or an empty one
+-- the list at a place of the given lists is the one that was given there, or an empty one if none
+-- was
 given_at : (lists : List (Option (List ℕ))) (p : ℕ) → list_at (given_lists lists) p ≡ unwrap_or (slice_index_or lists p None) []
 given_at lists p = elim (cases_lt p (length lists)) [
   | inl l ↦ get_or-map (λ list. unwrap_or list []) lists p None [] l
@@ -60,9 +62,9 @@ named_list : (f : ℕ → List ℕ) (list : Option (List ℕ)) → unwrap_or (op
 named_list f None = refl
 named_list f (Some xs) = refl
 
-module _ (d : Contents) (draft : Draft) (market : IsMarket d draft) (secret : List ℕ) where
+module _ (d : Contents) (draft : Draft) (market : IsMarket d draft) (secret : List ℕ) (real : Real) where
   abbrev pub lists : List (List ℕ)
-  lists = lists_texts d draft nobody_named
+  lists = lists_texts d draft real
 
   abbrev pub programmes : ℕ
   programmes = length d.instance.quotas
@@ -72,20 +74,27 @@ module _ (d : Contents) (draft : Draft) (market : IsMarket d draft) (secret : Li
 
   pub all_texts : length lists ≡ programmes + residents
   all_texts =
-      length-append (map (programme_lists d draft nobody_named) (range_with_len 0 programmes)) (map (resident_lists d draft nobody_named) (range_with_len 0 residents))
-      ∙ (let a = length-map-range_with_len (programme_lists d draft nobody_named) 0 programmes in let b = length-map-range_with_len (resident_lists d draft nobody_named) 0 residents in omega (arith, a, b))
+      length-append (map (programme_lists d draft real) (range_with_len 0 programmes)) (map (resident_lists d draft real) (range_with_len 0 residents))
+      ∙ (let a = length-map-range_with_len (programme_lists d draft real) 0 programmes in let b = length-map-range_with_len (resident_lists d draft real) 0 residents in omega (arith, a, b))
 
   pub few_texts : length lists ≤ 22000
   few_texts = let a = market.few_programmes in let b = market.few_residents in let n = all_texts in omega (arith, a, b, n)
 
-  pub programme_there : (p : ℕ) → p < programmes → slice_get lists p ≡ Some (programme_lists d draft nobody_named p)
-  programme_there p l = first_side (programme_lists d draft nobody_named) programmes p (map (resident_lists d draft nobody_named) (range_with_len 0 residents)) l
+  pub programme_there : (p : ℕ) → p < programmes → slice_get lists p ≡ Some (programme_lists d draft real p)
+  programme_there p l = first_side (programme_lists d draft real) programmes p (map (resident_lists d draft real) (range_with_len 0 residents)) l
 
-  pub resident_there : (r : ℕ) → r < residents → slice_get lists (programmes + r) ≡ Some (resident_lists d draft nobody_named r)
+  pub resident_there : (r : ℕ) → r < residents → slice_get lists (programmes + r) ≡ Some (resident_lists d draft real r)
   resident_there r l =
-      second_side (map (programme_lists d draft nobody_named) (range_with_len 0 programmes)) (map (resident_lists d draft nobody_named) (range_with_len 0 residents)) programmes r
-      (length-map-range_with_len (programme_lists d draft nobody_named) 0 programmes) (let n = length-map-range_with_len (resident_lists d draft nobody_named) 0 residents in omega (arith, n, l))
-      ∙ ap Some (get_or-map-range_with_len (resident_lists d draft nobody_named) 0 residents r r [] l (let z : 0 + r ≡ r = omega arith in z))
+      second_side (map (programme_lists d draft real) (range_with_len 0 programmes)) (map (resident_lists d draft real) (range_with_len 0 residents)) programmes r
+      (length-map-range_with_len (programme_lists d draft real) 0 programmes) (let n = length-map-range_with_len (resident_lists d draft real) 0 residents in omega (arith, n, l))
+      ∙ ap Some (get_or-map-range_with_len (resident_lists d draft real) 0 residents r r [] l (let z : 0 + r ≡ r = omega arith in z))
+
+  -- the pieces between commas in the row of a resident's real name
+  abbrev pub their_row : ℕ → Cells
+  their_row p = named_cells (slice_index_or real.programmes p None)
+
+  abbrev pub my_row : ℕ → Cells
+  my_row r = named_cells (slice_index_or real.residents r None)
 
   -- Lists.
 
@@ -125,62 +134,64 @@ module _ (d : Contents) (draft : Draft) (market : IsMarket d draft) (secret : Li
   unfolding wrong_name
   nobody_on list = refl
 
-  -- Before a match.
-
-  abbrev early_programme : ℕ → Receipt
-  early_programme p = programme_content (opened_at secret lists None p) (programme_name d p) (quota d.instance p) (list_of_programme d draft p) (is_withdrawn d.instance.programmes_withdrawn p) []
-
-  abbrev early_resident : ℕ → Receipt
-  early_resident r = resident_content (opened_at secret lists None (programmes + r)) (resident_name d r) (list_of_resident d draft r) (is_withdrawn d.instance.residents_withdrawn r) None []
-
   pub small_quota : (p : ℕ) → quota d.instance p < 1000000000
   small_quota p = let few = market.few_places p in omega (arith, few)
 
-  early_programme_at : (p : ℕ) → p < programmes → IsAt secret lists None p (early_programme p)
-  early_programme_at p l = record {
-    count_is = refl;
-    index_is = refl;
-    opening_is = refl;
-    second_is = refl;
-    few = (let few = few_texts in omega (arith, few));
-    listed = programme_there p l ∙ ap Some (programme_lists_are d draft market.names (opened_at secret lists None p) p [] (small_quota p));
-    each = λ texts e. cc e;
-    placed = λ texts e. cc e;
-  }
+  -- Before a match.
 
-  early_resident_at : (r : ℕ) → r < residents → IsAt secret lists None (programmes + r) (early_resident r)
-  early_resident_at r l = record {
-    count_is = refl;
-    index_is = refl;
-    opening_is = refl;
-    second_is = refl;
-    few = (let few = few_texts in omega (arith, few));
-    listed = resident_there r l ∙ ap Some (resident_lists_are d draft market.names (opened_at secret lists None (programmes + r)) r None []);
-    each = λ texts e. cc e;
-    placed = λ texts e. cc e;
-  }
+  module _ (keyed : AreNameRows d real) where
+    abbrev pub early_programme : ℕ → Receipt
+    early_programme p = programme_content (opened_at secret lists None p (their_row p)) (programme_name d p) (quota d.instance p) (list_of_programme d draft p) (is_withdrawn d.instance.programmes_withdrawn p) []
 
-  pub early_programme_good : (p : ℕ) → p < programmes → IsGoodReceipt (published secret Lists lists) None (receipt_of secret (codes "P") (programme_name d p) lists None p)
-  early_programme_good p l =
-      let o = opened_at secret lists None p in
-      let at = early_programme_at p l in
-      let n = all_texts in
-      let few = few_texts in
-      let right = programme_right (published secret Lists lists) None (opened_at secret lists None p) (programme_name d p) (quota d.instance p) (list_of_programme d draft p) (is_withdrawn d.instance.programmes_withdrawn p) []
-      (opened_right secret lists None p (early_programme p) at (omega (arith, n, l, few)))
-      (record { named = market.programmes.named p l; places = small_quota p; listed = their_list_right p; fits = omega arith; nobody = λ e. refl; on_list = nobody_on (unwrap_or (list_of_programme d draft p) []) }) in
-      good_receipt secret lists None p (early_programme p) at (omega (arith, n, l)) few_texts (market.names.programmes p)
-      (clean_more 660267 661000 _ (omega arith) (programme_lists_clean d market.names (opened_at secret lists None p) p (quota d.instance p) (small_quota p) [] (slice_index_or draft.programme_lists p None) (is_withdrawn d.instance.programmes_withdrawn p) (their_list_short p)))
-      (λ texts e. cc e)
-      (list_shown (slice_index_or draft.programme_lists p None)) right
+    abbrev pub early_resident : ℕ → Receipt
+    early_resident r = resident_content (opened_at secret lists None (programmes + r) (my_row r)) (resident_name d r) (list_of_resident d draft r) (is_withdrawn d.instance.residents_withdrawn r) None []
 
-  pub early_resident_good : (r : ℕ) → r < residents → IsGoodReceipt (published secret Lists lists) None (receipt_of secret (codes "R") (resident_name d r) lists None (programmes + r))
-  early_resident_good r l =
-      let at = early_resident_at r l in
-      let n = all_texts in
-      let few = few_texts in
-      let right = resident_right (published secret Lists lists) None (opened_at secret lists None (programmes + r)) (resident_name d r) (list_of_resident d draft r) (is_withdrawn d.instance.residents_withdrawn r) None []
-      (opened_right secret lists None (programmes + r) (early_resident r) at (omega (arith, n, l, few))) (market.residents.named r l) (my_list_right r) (λ root e. cc e) in
-      good_receipt secret lists None (programmes + r) (early_resident r) at (omega (arith, n, l)) few_texts (market.names.residents r)
-      (clean_more 66167 661000 _ (omega arith) (resident_lists_clean d market.names (opened_at secret lists None (programmes + r)) r (mine r) (is_withdrawn d.instance.residents_withdrawn r) None [] (my_list_short r)))
-      (λ texts e. cc e) tt right
+    pub early_programme_at : (p : ℕ) → p < programmes → IsAt secret lists None p (early_programme p)
+    early_programme_at p l = record {
+      count_is = refl;
+      index_is = refl;
+      opening_is = refl;
+      second_is = refl;
+      few = (let few = few_texts in omega (arith, few));
+      listed = programme_there p l ∙ ap Some (programme_lists_are d draft market.names (opened_at secret lists None p (their_row p)) real p [] (keyed.programmes p l).text_is (small_quota p));
+      each = λ texts e. cc e;
+      placed = λ texts e. cc e;
+      named = (keyed.programmes p l).right;
+    }
+
+    pub early_resident_at : (r : ℕ) → r < residents → IsAt secret lists None (programmes + r) (early_resident r)
+    early_resident_at r l = record {
+      count_is = refl;
+      index_is = refl;
+      opening_is = refl;
+      second_is = refl;
+      few = (let few = few_texts in omega (arith, few));
+      listed = resident_there r l ∙ ap Some (resident_lists_are d draft market.names (opened_at secret lists None (programmes + r) (my_row r)) real r None [] (keyed.residents r l).text_is);
+      each = λ texts e. cc e;
+      placed = λ texts e. cc e;
+      named = (keyed.residents r l).right;
+    }
+
+    pub early_programme_good : (p : ℕ) → p < programmes → IsGoodReceipt (published secret Lists lists) None (receipt_of secret (codes "P") (programme_name d p) lists None p)
+    early_programme_good p l =
+        let at = early_programme_at p l in
+        let n = all_texts in
+        let few = few_texts in
+        let right = programme_right (published secret Lists lists) None (opened_at secret lists None p (their_row p)) (programme_name d p) (quota d.instance p) (list_of_programme d draft p) (is_withdrawn d.instance.programmes_withdrawn p) []
+        (opened_right secret lists None p (early_programme p) at (omega (arith, n, l, few)))
+        (record { named = market.programmes.named p l; places = small_quota p; listed = their_list_right p; fits = omega arith; nobody = λ e. refl; on_list = nobody_on (unwrap_or (list_of_programme d draft p) []) }) in
+        good_receipt secret lists None p (early_programme p) at (omega (arith, n, l)) few_texts (market.names.programmes p)
+        (clean_more 700277 705000 _ (omega arith) (programme_lists_clean d market.names (opened_at secret lists None p (their_row p)) p (quota d.instance p) (small_quota p) [] (keyed.programmes p l).clean (slice_index_or draft.programme_lists p None) (is_withdrawn d.instance.programmes_withdrawn p) (their_list_short p)))
+        (λ texts e. cc e)
+        (list_shown (slice_index_or draft.programme_lists p None)) right
+
+    pub early_resident_good : (r : ℕ) → r < residents → IsGoodReceipt (published secret Lists lists) None (receipt_of secret (codes "R") (resident_name d r) lists None (programmes + r))
+    early_resident_good r l =
+        let at = early_resident_at r l in
+        let n = all_texts in
+        let few = few_texts in
+        let right = resident_right (published secret Lists lists) None (opened_at secret lists None (programmes + r) (my_row r)) (resident_name d r) (list_of_resident d draft r) (is_withdrawn d.instance.residents_withdrawn r) None []
+        (opened_right secret lists None (programmes + r) (early_resident r) at (omega (arith, n, l, few))) (market.residents.named r l) (my_list_right r) (λ root e. cc e) in
+        good_receipt secret lists None (programmes + r) (early_resident r) at (omega (arith, n, l)) few_texts (market.names.residents r)
+        (clean_more 106177 705000 _ (omega arith) (resident_lists_clean d market.names (opened_at secret lists None (programmes + r) (my_row r)) r (mine r) (is_withdrawn d.instance.residents_withdrawn r) None [] (keyed.residents r l).clean (my_list_short r)))
+        (λ texts e. cc e) tt right

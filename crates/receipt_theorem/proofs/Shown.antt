@@ -1,5 +1,5 @@
 -- The laws of receipts.
-use Rattle.std.proofs.Common.{◌≡◌, ◌⊎◌, ℕ, zero, suc, ◌+◌, ◌-◌, ◌*◌, ◌<◌, ◌≤◌, ◌^◌, ◌&&◌, Bool, true, false, List, [], ◌∷◌, ◌++◌, length, map, get_or, nat_lt, Option, Some, None, refl, sym, ap, ◌∙◌, arith, subst, rules, inl, inr}
+use Rattle.std.proofs.Common.{◌≡◌, ◌⊎◌, ℕ, zero, suc, ◌+◌, ◌-◌, ◌*◌, ◌<◌, ◌≤◌, ◌^◌, ◌&&◌, Bool, true, false, List, [], ◌∷◌, ◌++◌, length, map, get_or, Option, Some, None, refl, sym, ap, ◌∙◌, arith, subst, rules, inl, inr}
 use Rattle.std.specs.Prelude.{Result, Ok, bytes_eq, fold, nat_le, if◌then◌else◌, option_map, slice_get, decimal}
 use Rattle.std.specs.List.{All, list_all, range_with_len}
 use Rattle.std.proofs.Math.Nat.{pow-le-pow_right, pow-suc}
@@ -24,7 +24,7 @@ use Rattle.docket.specs.Texts.{resident_row}
 use Rattle.match_model.specs.Draft.{Draft}
 use Rattle.reasons_text.specs.Answers.{CaseParts, IsAnswer}
 use Rattle.reasons_text.specs.Naming.{own_names}
-use Rattle.reasons_text.specs.RealNames.{Real, nobody_named}
+use Rattle.reasons_text.specs.RealNames.{AreReal, Real}
 use Rattle.reasons_text.specs.Table.{rows_on}
 use Rattle.seal.specs.Hashes.{IsSalted, Leaf}
 use Rattle.seal.specs.Tree.{leaf_hashes, root, seal, seal_hash}
@@ -38,13 +38,14 @@ use Rattle.seal_text.specs.declared.serve.Wanted.TheVariants.{Roots, Receipts}
 use Rattle.seal_text.proofs.LeafFacts.{length-leaves_from}
 use Rattle.receipt_check.specs.Rows.{Cells, plain_text, split_rows}
 use Rattle.receipt_check.specs.Receipt.{Receipt, lists_text, read, result_text}
-use Rattle.receipt_check.specs.Shape.{at, shape_fault}
-use Rattle.receipt_check.specs.declared.wrong.Wrong.TheVariants as wrong
-use Rattle.receipt_check.specs.Faults.{first_of, if_written, lists_fault, longest, openings_at, openings_fault, opening_wrong, plain_number, receipt_fault, result_fault, second_fault, text_fault, value_fault}
+use Rattle.receipt_check.specs.Faults.{if_written, openings_at, openings_fault, opening_wrong, plain_number, receipt_fault, second_fault, value_fault}
+use Rattle.receipt_check.proofs.CleanFacts.{first_none}
+use Rattle.receipt_check.proofs.GoodFacts.{parts_none}
 use Rattle.receipt_theorem.specs.Laws.{GoodReceiptsLaw, IsSealed, IsSealedText, OneSealingLaw, RootsLaw, Sealed, SealedReceiptLaw, ShowsSealed, WritesGoodReceipts, WritesRoots, lists_root, result_root}
 use Rattle.receipt_theorem.proofs.After.{programme_good, resident_good, results_counted}
 use Rattle.receipt_theorem.proofs.Joined.{sealed_text, text_in}
 use Rattle.receipt_theorem.proofs.Market.{IsMarket, market}
+use Rattle.receipt_theorem.proofs.Named.{name_rows_of, one_real, unmapped}
 use Rattle.receipt_theorem.proofs.Sealing.{early_programme_good, early_resident_good, few_texts}
 
 -- What is sealed.
@@ -74,39 +75,41 @@ roots docket (Some sheet) key secret_text text h =
 
 -- Receipts that are written.
 
-market_of : (docket : List ℕ) (d : Contents) → IsDocketIn docket [] [] d → IsMarket d (draft_in docket [])
+pub market_of : (docket : List ℕ) (d : Contents) → IsDocketIn docket [] [] d → IsMarket d (draft_in docket [])
 market_of docket d read = subst (λ (d : Contents). IsMarket d (draft_in docket [])) (sym read.docket_is) (market (rows_of_all docket [] []) read.sound)
 
-market_of_case : (docket sheet : List ℕ) (c : CaseParts) → IsCaseIn docket sheet c → IsMarket c.docket (draft_in docket sheet)
+pub market_of_case : (docket sheet : List ℕ) (c : CaseParts) → IsCaseIn docket sheet c → IsMarket c.docket (draft_in docket sheet)
 market_of_case docket sheet c read =
     let files = read.read.docket_is in
     subst (λ (d : Contents). IsMarket d (draft_in docket sheet)) (sym files.docket_is) (market (rows_of_all docket sheet []) files.sound)
 
 pub good_receipts : GoodReceiptsLaw
-good_receipts docket None secret_text text h =
+good_receipts docket None key secret_text text h =
     let t = h.text_is in
     let m = market_of docket t.d t.read in
+    let keyed = name_rows_of t.d key t.real t.are_real in
     record {
-      s = sealed_of h.secret t.d nobody_named (lists_texts t.d (draft_in docket []) nobody_named) None;
-      is_sealed = record { is_secret = h.is_secret; are_real = refl; texts = record { read = t.read; lists_are = refl; results_are = refl } };
-      text_is = t.text_is ∙ ap (λ (real : Real). receipts_text h.secret t.d (lists_texts t.d (draft_in docket []) real) None) t.are_real;
-      programmes = early_programme_good t.d (draft_in docket []) m h.secret;
-      residents = early_resident_good t.d (draft_in docket []) m h.secret;
+      s = sealed_of h.secret t.d t.real (lists_texts t.d (draft_in docket []) t.real) None;
+      is_sealed = record { is_secret = h.is_secret; are_real = t.are_real; texts = record { read = t.read; lists_are = refl; results_are = refl } };
+      text_is = t.text_is;
+      programmes = early_programme_good t.d (draft_in docket []) m h.secret t.real keyed;
+      residents = early_resident_good t.d (draft_in docket []) m h.secret t.real keyed;
     }
-good_receipts docket (Some sheet) secret_text text h =
+good_receipts docket (Some sheet) key secret_text text h =
     let t = h.text_is in
     let w = t.made in
     let m = market_of_case docket sheet t.c t.read in
+    let keyed = name_rows_of t.c.docket key w.real w.are_real in
     record {
-      s = sealed_of h.secret t.c.docket nobody_named (lists_texts t.c.docket (draft_in docket sheet) nobody_named) (Some w.results);
+      s = sealed_of h.secret t.c.docket w.real (lists_texts t.c.docket (draft_in docket sheet) w.real) (Some w.results);
       is_sealed = record {
         is_secret = h.is_secret;
-        are_real = refl;
+        are_real = w.are_real;
         texts = record { c = t.c; read = t.read; docket_is = refl; lists_are = refl; results = w.results; are_results = w.are_results; results_are = refl };
       };
-      text_is = w.text_is ∙ ap (λ (real : Real). receipts_text h.secret t.c.docket (lists_texts t.c.docket (draft_in docket sheet) real) (Some w.results)) w.are_real;
-      programmes = programme_good t.c (draft_in docket sheet) m h.secret t.read.read.written_is (w.stable refl) w.results w.are_results;
-      residents = resident_good t.c (draft_in docket sheet) m h.secret t.read.read.written_is (w.stable refl) w.results w.are_results;
+      text_is = w.text_is;
+      programmes = programme_good t.c (draft_in docket sheet) m h.secret w.real keyed t.read.read.written_is (w.stable refl) w.results w.are_results;
+      residents = resident_good t.c (draft_in docket sheet) m h.secret w.real keyed t.read.read.written_is (w.stable refl) w.results w.are_results;
     }
 
 -- Receipts that pass the check.
@@ -120,8 +123,8 @@ worth_below (c ∷ rest) acc i l h =
     let more : suc i + length rest ≡ i + suc (length rest) = omega arith in
     subst (λ n. fold (λ worth c. worth * 10 + (c - 48)) (acc * 10 + (c - 48)) rest < 10 ^ n) more (worth_below rest (acc * 10 + (c - 48)) (suc i) (omega (arith, l, digit.0, digit.1, ten)) parts.1)
 
--- a number of a receipt is below 2 ^ 64
-number_small : (digits : List ℕ) (n : ℕ) → plain_number digits ≡ Some n → n < 2 ^ 64
+-- a number that a receipt tells is below 2 ^ 64
+pub number_small : (digits : List ℕ) (n : ℕ) → plain_number digits ≡ Some n → n < 2 ^ 64
 unfolding plain_number number_of is_number
 number_small digits n h = by (is_number digits) refl h
   where
@@ -145,22 +148,15 @@ number_small digits n h = by (is_number digits) refl h
             omega (arith, same, small, most))
         by_written false q = cc q
 
-none_of : {X : Type 0} (a b : Option X) → first_of a b ≡ None → (a ≡ None) × (b ≡ None)
-none_of None b h = (refl, h)
-none_of (Some x) b h = cc h
-
-unmapped : {X Y : Type 0} (f : X → Y) (o : Option X) → option_map f o ≡ None → o ≡ None
-unmapped f None h = refl
-unmapped f (Some x) h = cc h
-
--- what openings without a fault show
-record HasOpenings (lists_top : List ℕ) (result_top : Option (List ℕ)) (r : Receipt) : Type 0 where
-  count : ℕ
-  index : ℕ
-  count_is : plain_number r.count ≡ Some count
-  index_is : plain_number r.index ≡ Some index
-  lists : opening_wrong lists_top count index r.opening (lists_text r) ≡ None
-  result : (root : List ℕ) → result_top ≡ Some root → opening_wrong root count index r.second (result_text r) ≡ None
+-- openings without a fault tell a count and a place, and open the published roots with the texts of
+-- the receipt
+pub record HasOpenings (lists_top : List ℕ) (result_top : Option (List ℕ)) (r : Receipt) : Type 0 where
+  pub count : ℕ
+  pub index : ℕ
+  pub count_is : plain_number r.count ≡ Some count
+  pub index_is : plain_number r.index ≡ Some index
+  pub lists : opening_wrong lists_top count index r.opening (lists_text r) ≡ None
+  pub result : (root : List ℕ) → result_top ≡ Some root → opening_wrong root count index r.second (result_text r) ≡ None
 
 second_right : (top : Option (List ℕ)) (count index : ℕ) (r : Receipt) → second_fault top count index r ≡ None → (root : List ℕ) → top ≡ Some root → opening_wrong root count index r.second (result_text r) ≡ None
 second_right None count index r h root e = cc e
@@ -176,22 +172,14 @@ openings_shown lists_top result_top r h = by (plain_number r.count) (plain_numbe
     by None index c i k = cc k
     by (Some count) None c i k = cc k
     by (Some count) (Some index) c i k =
-        let parts = none_of _ _ k in
+        let parts = first_none _ _ k in
         record { count = count; index = index; count_is = c; index_is = i; lists = unmapped _ (opening_wrong lists_top count index r.opening (lists_text r)) parts.0; result = second_right result_top count index r parts.1 }
 
-passed : (lists_top : List ℕ) (result_top : Option (List ℕ)) (bytes : List ℕ) → receipt_fault lists_top result_top bytes ≡ None → HasOpenings lists_top result_top (read (split_rows (plain_text bytes)))
-unfolding text_fault value_fault
-passed lists_top result_top bytes h = by (nat_lt longest (length bytes)) h
-  where
-    r : Receipt
-    r = read (split_rows (plain_text bytes))
-
-    by : (b : Bool) → (if b then Some (at 0 wrong.Long) else text_fault lists_top result_top (plain_text bytes)) ≡ None → HasOpenings lists_top result_top r
-    by true k = cc k
-    by false k =
-        let shape = none_of (shape_fault lists_top result_top (read (split_rows (plain_text bytes))) (split_rows (plain_text bytes)) (plain_text bytes)) _ k in
-        let value = none_of (openings_fault lists_top result_top (read (split_rows (plain_text bytes)))) _ shape.1 in
-        openings_shown lists_top result_top (read (split_rows (plain_text bytes))) value.0
+pub passed : (lists_top : List ℕ) (result_top : Option (List ℕ)) (bytes : List ℕ) → receipt_fault lists_top result_top bytes ≡ None → HasOpenings lists_top result_top (read (split_rows (plain_text bytes)))
+unfolding value_fault
+passed lists_top result_top bytes h =
+    openings_shown lists_top result_top (read (split_rows (plain_text bytes)))
+    (first_none (openings_fault lists_top result_top (read (split_rows (plain_text bytes)))) _ (parts_none lists_top result_top bytes h).2).0
 
 -- Leaves and texts.
 
@@ -205,7 +193,7 @@ unfolding leaves_from
 texts_back secret section i [] = refl
 texts_back secret section i (text ∷ texts) = ap (λ (rest : List (List ℕ)). text ∷ rest) (texts_back secret section (i + 1) texts)
 
-shows_text : (secret : List ℕ) (section : Section) (texts : List (List ℕ)) (count index : ℕ) (fields : Cells) (text : List ℕ) → length texts < 2 ^ 64 → count < 2 ^ 64
+pub shows_text : (secret : List ℕ) (section : Section) (texts : List (List ℕ)) (count index : ℕ) (fields : Cells) (text : List ℕ) → length texts < 2 ^ 64 → count < 2 ^ 64
     → opening_wrong (published secret section texts) count index fields text ≡ None → IsSealedText secret section texts count index fields text
 shows_text secret section texts count index fields text few small h =
     let leaves = leaves_from secret section 0 texts in
@@ -217,7 +205,7 @@ shows_text secret section texts count index fields text few small h =
       | inr collide ↦ inr collide
     ]
 
--- there are fewer than 2 ^ 64 members
+-- a docket without a fault has fewer than 2 ^ 64 members
 few_of : (d : Contents) (draft : Draft) (real : Real) → IsMarket d draft → length (lists_texts d draft real) < 2 ^ 64
 few_of d draft real m =
     let all = length-append (map (programme_lists d draft real) (range_with_len 0 (length d.instance.quotas))) (map (resident_lists d draft real) (range_with_len 0 (length d.instance.resident_lists))) in
@@ -227,7 +215,7 @@ few_of d draft real m =
     let more = m.few_residents in
     omega (arith, all, a, b, few, more)
 
-few_sealed : (docket : List ℕ) (sheet key : Option (List ℕ)) (secret_text : List ℕ) (s : Sealed) → IsSealed docket sheet key secret_text s
+pub few_sealed : (docket : List ℕ) (sheet key : Option (List ℕ)) (secret_text : List ℕ) (s : Sealed) → IsSealed docket sheet key secret_text s
     → (length s.lists < 2 ^ 64) × ((texts : List (List ℕ)) → s.results ≡ Some texts → length texts < 2 ^ 64)
 few_sealed docket None key secret_text s h =
     let t = h.texts in (
@@ -241,12 +229,13 @@ few_sealed docket (Some sheet) key secret_text s h =
       λ texts e. (
           let same : Some t.results ≡ Some texts = sym t.results_are ∙ e in
           let it : t.results ≡ texts = cc same in
-          let counted = results_counted t.c (draft_in docket sheet) m s.secret t.results t.are_results in
-          let few = few_texts t.c.docket (draft_in docket sheet) m s.secret in
+          let counted = results_counted t.c (draft_in docket sheet) m s.secret s.real t.results t.are_results in
+          let few = few_texts t.c.docket (draft_in docket sheet) m s.secret s.real in
           subst (λ (l : List (List ℕ)). length l < 2 ^ 64) it (omega (arith, counted, few))),
     )
 
--- a receipt that passes the check under the published roots shows what was sealed
+-- a receipt that passes the check under the published roots has the texts that were sealed, or
+-- hashed bytes collide
 pub sealed_receipt : SealedReceiptLaw
 sealed_receipt docket sheet key secret_text s bytes sealed h =
     let r = read (split_rows (plain_text bytes)) in
@@ -320,21 +309,22 @@ made s s' a b r c d =
     ∙ ap (λ (x : Option (List (List ℕ))). record { secret = s'.secret; docket = s'.docket; real = s'.real; lists = s'.lists; results = x }) d
 
 pub one_sealing : OneSealingLaw
-one_sealing docket None secret_text s s' h h' =
+one_sealing docket None key secret_text s s' h h' =
     let t = h.texts in
     let t' = h'.texts in
     let d : s.docket ≡ s'.docket = t.read.docket_is ∙ sym t'.read.docket_is in
-    let r : s.real ≡ s'.real = h.are_real ∙ sym h'.are_real in
+    let r : s.real ≡ s'.real = one_real s'.docket key s.real s'.real (subst (λ (x : Contents). AreReal x key s.real) d h.are_real) h'.are_real in
     made s s' (one_secret s.secret s'.secret (secret_of secret_text) h.is_secret h'.is_secret) d r
     (t.lists_are ∙ ap (λ (x : Contents). lists_texts x (draft_in docket []) s.real) d ∙ ap (λ (x : Real). lists_texts s'.docket (draft_in docket []) x) r ∙ sym t'.lists_are) (t.results_are ∙ sym t'.results_are)
-one_sealing docket (Some sheet) secret_text s s' h h' =
+one_sealing docket (Some sheet) key secret_text s s' h h' =
     let t = h.texts in
     let t' = h'.texts in
     let d : t'.c.docket ≡ t.c.docket = t'.read.read.docket_is.docket_is ∙ sym t.read.read.docket_is.docket_is in
     let both : Some t'.c.sheet ≡ Some t.c.sheet = sym t'.read.has_sheet ∙ ap (λ (x : Contents). x.sheet) d ∙ t.read.has_sheet in
     let m : t'.c.sheet ≡ t.c.sheet = cc both in
     let w : t'.c.written ≡ t.c.written = t'.read.read.written_is ∙ sym t.read.read.written_is in
-    let r : s.real ≡ s'.real = h.are_real ∙ sym h'.are_real in
-    made s s' (one_secret s.secret s'.secret (secret_of secret_text) h.is_secret h'.is_secret) (t.docket_is ∙ sym d ∙ sym t'.docket_is) r
+    let whole : s.docket ≡ s'.docket = t.docket_is ∙ sym d ∙ sym t'.docket_is in
+    let r : s.real ≡ s'.real = one_real s'.docket key s.real s'.real (subst (λ (x : Contents). AreReal x key s.real) whole h.are_real) h'.are_real in
+    made s s' (one_secret s.secret s'.secret (secret_of secret_text) h.is_secret h'.is_secret) whole r
     (t.lists_are ∙ ap (λ (x : Contents). lists_texts x (draft_in docket sheet) s.real) (sym d) ∙ ap (λ (x : Real). lists_texts t'.c.docket (draft_in docket sheet) x) r ∙ sym t'.lists_are)
     (t.results_are ∙ ap (λ (x : List (List ℕ)). Some x) (results_one t.c t'.c d m w t.results t'.results t.are_results t'.are_results) ∙ sym t'.results_are)

@@ -21,7 +21,7 @@ more_short most (field ∷ rest) h =
     let size = length-append field (more_fields rest) in
     search (rules, one, more, size)
 
--- a row of fields that are short
+-- the length of a row as it is printed, if none of its fields is longer than a given length
 pub line_short : (most : ℕ) (fields : Cells) → AreShort most fields → length (line fields) ≤ length fields * (most + 1) + 1
 line_short most [] h = omega arith
 line_short most (field ∷ rest) h =
@@ -31,7 +31,7 @@ line_short most (field ∷ rest) h =
     let b = length-append (more_fields rest) (10 ∷ []) in
     search (rules, one, more, a, b)
 
--- rows that are short
+-- the length of rows as they are printed, if none of them is longer than a given length
 pub lines_short : (most : ℕ) (rows : List Cells) → All (λ row. length (line row) ≤ most) rows → length (lines rows) ≤ length rows * most
 lines_short most [] h = omega arith
 lines_short most (row ∷ rows) h =
@@ -40,7 +40,7 @@ lines_short most (row ∷ rows) h =
     let size = length-append (line row) (lines rows) in
     search (rules, one, more, size)
 
--- a path has at most as many hashes as the number of leaves can be halved
+-- the path of a leaf has at most k hashes, if there are at most 2 ^ k leaves
 pub path_short : (levels k i : ℕ) (hashes : List (List ℕ)) → i < length hashes → length hashes ≤ 2 ^ k → length (path_from levels i hashes) ≤ k
 path_short zero k i hashes l h = omega arith
 path_short (suc levels) zero i hashes l h =

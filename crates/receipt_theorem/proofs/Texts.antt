@@ -59,7 +59,7 @@ flat_same P f g h (x ∷ xs) all = rw (h x (All-head P x xs all), flat_same P f 
 
 -- Programmes.
 
--- the names of a programme's residents
+-- the names of the residents whom a placement gives a programme
 abbrev pub member_names : Contents → List (Option ℕ) → ℕ → Cells
 member_names d m p = map (resident_name d) (members_of m p)
 
@@ -76,7 +76,7 @@ module _ (d : Contents) (m : List (Option ℕ)) (names : HasPlainNames d) where
   members_text p n many =
       rw many (flat_filter (λ r. holds p (programme_of m r)) (λ r. mark_row d r (Some p)) (range_with_len 0 (length m)) ∙ member_lines p (members_of m p))
 
-  -- what is sealed of a programme
+  -- what is sealed of a programme after the match is the text of the result in its receipt
   pub programme_text_is : (o : Opened) (p : ℕ) (list : Option Cells) (gone : Bool) → length d.instance.resident_lists ≡ length m → quota d.instance p < 1000000000 → member_count m p < 1000000000
       → programme_result d m p ≡ result_text (programme_content o (programme_name d p) (quota d.instance p) list gone (member_names d m p))
   unfolding programme_result programme_row result_text
@@ -94,7 +94,7 @@ module _ (d : Contents) (m : List (Option ℕ)) (names : HasPlainNames d) where
 
   -- Residents.
 
-  -- the row of a choice, with its number from 1
+  -- the row that tells a choice in a receipt, by the choice's number, the programme and the reason
   abbrev pub told_row : ℕ → ℕ × (ℕ × Why) → Cells
   told_row r told = resident_name d r ∷ programme_name d told.1.0 ∷ decimal told.0 ∷ reason_fields told.1.1
 
@@ -127,7 +127,7 @@ module _ (d : Contents) (m : List (Option ℕ)) (names : HasPlainNames d) where
       rw (own_shown r, other_shown told.1.0) (plain_row (resident_name d r) (programme_name d told.1.0) (decimal told.0 ∷ reason_fields told.1.1)
       ((names.residents r).plain, ((names.programmes told.1.0).plain, (number_plain told.0 h.0, reason_plain told.1.1 h.1))))
 
-  -- the rows of a resident's choices
+  -- the rows that tell a resident's choices in a receipt, with numbers from a given one
   abbrev pub told_rows : ℕ → List ℕ → List Why → List Cells
   told_rows r programmes reasons = map (told_row r) (enumerate_from 1 (zip programmes reasons))
 
@@ -143,7 +143,7 @@ module _ (d : Contents) (m : List (Option ℕ)) (names : HasPlainNames d) where
         get_or-enumerate_from 1 (zip listed reasons) k (0, (0, Matched)) (let m = length-zip listed reasons in omega (arith, m, each, l))
         ∙ ap (λ (x : ℕ × Why). (1 + k, x)) (get_or-zip listed reasons k (0, Matched) l (subst (λ n. k < n) (sym each) l))
 
-    -- the row of a choice
+    -- the row at place k of these rows tells choice k + 1
     row_there : (k : ℕ) → k < length listed → row_at (told_rows r listed reasons) k ≡ told_row r (1 + k, (get_or listed k 0, get_or reasons k Matched))
     row_there k l = get_or-map (told_row r) both k (0, (0, Matched)) [] (subst (λ n. k < n) (sym many) l) ∙ ap (told_row r) (there k l)
 
@@ -162,13 +162,14 @@ module _ (d : Contents) (m : List (Option ℕ)) (names : HasPlainNames d) where
         let from_one : 1 + k ≡ k + 1 = omega arith in
         row_there k within ∙ rw (name, ap (drop 3) (row_there k within), from_one) refl))
 
-    -- the numbers of choices are small, and so are those of their reasons
+    -- the numbers of the choices and of their reasons are small
     pub all_fit : length listed < 100000000 → ((k : ℕ) → k < length listed → HasRoom (get_or reasons k Matched)) → All Fits both
     all_fit few room = All-from_get_or Fits both (0, (0, Matched)) (λ k l. (
         let within : k < length listed = subst (λ n. k < n) many l in
         subst Fits (sym (there k within)) (omega (arith, within, few), room k within)))
 
-    -- what is sealed of a resident
+    -- what is sealed of a resident after the match is the text of the result in the resident's
+    -- receipt
     pub resident_text_is : (o : Opened) (gone : Bool) → length listed < 100000000 → ((k : ℕ) → k < length listed → HasRoom (get_or reasons k Matched))
         → resident_row d m r ++ rows_on (own_names d) false r listed reasons
         ≡ result_text (resident_content o (resident_name d r) (map (programme_name d) listed) gone (option_map (programme_name d) (programme_of m r)) (told_rows r listed reasons))

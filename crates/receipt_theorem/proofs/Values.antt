@@ -6,27 +6,31 @@ use Rattle.std.proofs.lemmas.List.{length-map}
 use Rattle.docket_names.specs.Words.{is_name}
 use Rattle.docket_names.specs.Texts.{number_in}
 use Rattle.receipt_check.specs.Rows.{Cells, text_at}
-use Rattle.receipt_check.specs.Receipt.{Receipt, answer, lists_text, member_row, members, result_text}
+use Rattle.receipt_check.specs.Receipt.{Receipt, answer, has_real_name, lists_text, member_row, members, result_text}
 use Rattle.receipt_check.specs.Faults.{can_stand, lists_fault, members_fault, openings_at, openings_fault, opening_wrong, own_fault, plain_number, programme_fault, reason_at, reasons_fault, resident_fault, result_fault, result_fault_of, result_place, second_fault, stand_of, value_fault, wrong_name, wrong_reason}
+use Rattle.receipt_check.specs.Named.{is_real}
 use Rattle.receipt_check.specs.Shape.{at}
 use Rattle.receipt_check.specs.declared.wrong.Wrong.TheVariants as wrong
 use Rattle.receipt_check.specs.declared.kind.Kind.TheVariants.{Programme, Resident}
 use Rattle.receipt_theorem.proofs.Numbers.{read_back}
 use Rattle.receipt_theorem.proofs.Places.{none_in}
 
--- the residents whose rows these are
+-- the second fields of the rows of a programme's residents are the residents' names
 pub members_kept : (name : List ℕ) (others : Cells) → map (λ row. text_at row 1) (map (member_row name) others) ≡ others
 members_kept name [] = refl
 members_kept name (other ∷ rest) = ap (λ (more : Cells). other ∷ more) (members_kept name rest)
 
--- what a receipt has of the trees
+-- what a receipt tells of the trees and of the real name: how many leaves, the leaf's place, its
+-- two openings, and the pieces of the name's row
 pub record Opened : Type 0 where
   pub count : ℕ
   pub index : ℕ
   pub opening : Cells
   pub second : Cells
+  pub named : Cells
 
--- the content of a programme's receipt
+-- the content of a programme's receipt, by its openings, name, quota, list, withdrawal and
+-- residents
 abbrev pub programme_content : Opened → List ℕ → ℕ → Option Cells → Bool → Cells → Receipt
 programme_content o name quota list gone others = record {
   kind = Programme;
@@ -38,13 +42,14 @@ programme_content o name quota list gone others = record {
   has_list = is_some list;
   list = unwrap_or list [];
   gone = gone;
-  named = [];
+  named = o.named;
   second = o.second;
   own = None;
   after = map (member_row name) others;
 }
 
--- the content of a resident's receipt
+-- the content of a resident's receipt, by its openings, name, list, withdrawal, own programme and
+-- reasons
 abbrev pub resident_content : Opened → List ℕ → Cells → Bool → Option (List ℕ) → List Cells → Receipt
 resident_content o name list gone own after = record {
   kind = Resident;
@@ -56,18 +61,19 @@ resident_content o name list gone own after = record {
   has_list = false;
   list = list;
   gone = gone;
-  named = [];
+  named = o.named;
   second = o.second;
   own = own;
   after = after;
 }
 
--- the openings are right
+-- the two openings and the row of the real name in a receipt are right
 pub record AreOpened (lists_root : List ℕ) (result_root : Option (List ℕ)) (o : Opened) (r : Receipt) : Type 0 where
   pub few : o.count < 1000000000
   pub small : o.index < 1000000000
   pub lists : opening_wrong lists_root o.count o.index r.opening (lists_text r) ≡ None
   pub result : (root : List ℕ) → result_root ≡ Some root → opening_wrong root o.count o.index r.second (result_text r) ≡ None
+  pub named : (has_real_name r.named && not (is_real r.named)) ≡ false
 
 openings_right : (lists_root : List ℕ) (result_root : Option (List ℕ)) (o : Opened) (r : Receipt) → r.count ≡ decimal o.count → r.index ≡ decimal o.index
     → AreOpened lists_root result_root o r → openings_fault lists_root result_root r ≡ None
@@ -81,7 +87,7 @@ openings_right lists_root result_root o r c i h =
     by_root None right = refl
     by_root (Some root) right = rw (right root refl) refl
 
--- what has to hold of a programme's content beside its openings
+-- what has to be true of the content of a programme's receipt beside its openings
 pub record IsRightProgramme (name : List ℕ) (quota : ℕ) (list : Cells) (gone : Bool) (others : Cells) : Type 0 where
   pub named : is_name name ≡ true
   pub places : quota < 1000000000
@@ -96,7 +102,7 @@ pub programme_right : (lists_root : List ℕ) (result_root : Option (List ℕ)) 
     → value_fault lists_root result_root (programme_content o name quota list gone others) ≡ None
 unfolding value_fault
 programme_right lists_root result_root o name quota list gone others opened h =
-    rw (openings_right lists_root result_root o (programme_content o name quota list gone others) refl refl opened, h.named, read_back quota h.places, h.listed) (by_result result_root)
+    rw (openings_right lists_root result_root o (programme_content o name quota list gone others) refl refl opened, h.named, read_back quota h.places, h.listed, opened.named) (by_result result_root)
   where
     r : Receipt
     r = programme_content o name quota list gone others
@@ -115,7 +121,8 @@ programme_right lists_root result_root o name quota list gone others opened h =
     by_result None = refl
     by_result (Some root) = rw (read_back quota h.places, enough, none_gone gone refl) told
 
--- what has to hold of a resident's content beside its openings; the own programme is this choice
+-- what has to be true of the content of a resident's receipt beside its openings, if the own
+-- programme is choice `own`
 pub record IsRightResident (r : Receipt) (own : Option ℕ) : Type 0 where
   pub own_is : option_map (number_in r.list) r.own ≡ option_map Some own
   pub stays : (name : List ℕ) → r.own ≡ Some name → r.gone ≡ false
@@ -147,7 +154,7 @@ pub resident_right : (lists_root : List ℕ) (result_root : Option (List ℕ)) (
     → value_fault lists_root result_root (resident_content o name list gone told after) ≡ None
 unfolding value_fault
 resident_right lists_root result_root o name list gone told after opened named listed h =
-    rw (openings_right lists_root result_root o (resident_content o name list gone told after) refl refl opened, named, listed) (by_result result_root h)
+    rw (openings_right lists_root result_root o (resident_content o name list gone told after) refl refl opened, named, listed, opened.named) (by_result result_root h)
   where
     by_result : (root : Option (List ℕ)) → ((given : List ℕ) → root ≡ Some given → (own : Option ℕ) × IsRightResident (resident_content o name list gone told after) own)
         → result_fault root (resident_content o name list gone told after) ≡ None

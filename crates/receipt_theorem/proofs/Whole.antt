@@ -24,7 +24,7 @@ use Rattle.receipt_theorem.proofs.Openings.{IsDigest, hash_digest, opening_field
 use Rattle.receipt_theorem.proofs.Rows.{ArePlain, IsPlain, IsShortName}
 use Rattle.receipt_theorem.proofs.Sizes.{AreShort, path_short}
 
--- the rows of a tree
+-- the rows of a tree's part in a receipt are clean and have at most 1432 bytes
 part_clean : (word : List ℕ) (root : List ℕ) (count index : ℕ) (salt : List ℕ) (path : List (List ℕ)) → IsShortName word → IsDigest root → count < 1000000000 → index < 1000000000
     → IsDigest salt → All IsDigest path → length path ≤ 15 → IsClean 1432 (lines (part_rows word root (decimal count) (decimal index) (opening_fields salt path)))
 part_clean word root count index salt path w r c i s p few =
@@ -55,20 +55,20 @@ module _ (secret : List ℕ) (lists : List (List ℕ)) (results : Option (List (
       (subst (λ (n : List ℕ). IsClean 1432 (lines (part_rows word (published secret section texts) (decimal (length lists)) n fields))) (sym at.index_is)
       (subst (λ (f : Cells). IsClean 1432 (lines (part_rows word (published secret section texts) (decimal (length lists)) (decimal i) f))) (sym opening) made))
 
-  module _ (name : IsShortName c.name) (before : IsClean 661000 (lists_text c)) (after : (texts : List (List ℕ)) → results ≡ Some texts → IsClean 1001000 (result_text c)) where
+  module _ (name : IsShortName c.name) (before : IsClean 705000 (lists_text c)) (after : (texts : List (List ℕ)) → results ≡ Some texts → IsClean 1001000 (result_text c)) where
     result_clean : (o : Option (List (List ℕ))) → results ≡ o → IsClean 1002432 (result_part (option_map (published secret Outcome) o) c)
     result_clean None e = clean_more 0 1002432 [] (omega arith) clean_none
     result_clean (Some texts) e =
         clean_both 1432 1001000 _ _ (tree_clean Outcome texts (codes "result") c.second (record { plain = refl; short = omega arith }) (at.each texts e) (at.second_is ∙ ap (λ (o : Option (List (List ℕ))). second_at secret o i) e)) (after texts e)
 
-    whole_clean : IsClean 1664997 (receipt_text (published secret Lists lists) (option_map (published secret Outcome) results) c)
+    whole_clean : IsClean 1708997 (receipt_text (published secret Lists lists) (option_map (published secret Outcome) results) c)
     unfolding receipt_text
     whole_clean =
-        clean_both 1565 1663432 _ _
+        clean_both 1565 1707432 _ _
         (clean_both 133 1432 (line (first_row c)) _
         (clean_row (first_row c) (record { plain = refl; short = omega arith }, (record { plain = refl; short = omega arith }, (letter_short c.kind, (name, tt)))))
         (tree_clean Lists lists (codes "lists") c.opening (record { plain = refl; short = omega arith }) refl at.opening_is))
-        (clean_both 661000 1002432 _ _ before (result_clean results refl))
+        (clean_both 705000 1002432 _ _ before (result_clean results refl))
       where
         letter_short : (kind : Kind) → IsShortName (letter_of kind)
         letter_short Programme = record { plain = refl; short = omega arith }

@@ -1,5 +1,6 @@
 -- What the receipts of a sealed docket show. Each law is proved as the contract of a function with a like name.
-use Rattle.std.specs.Prelude.{◌≡◌, ◌⊎◌, ℕ, ◌+◌, ◌<◌, Option, Some, None, Ok, List, [], ◌∷◌, codes, length, option_map, slice_get, slice_index_or}
+use Rattle.std.specs.Prelude.{◌≡◌, ◌⊎◌, ℕ, ◌+◌, ◌<◌, Option, Some, None, Ok, List, [], ◌∷◌, codes, length, map, option_map, slice_get, slice_index_or}
+use Rattle.std.specs.List.{range_with_len}
 use Rattle.seal.specs.Hashes.{Leaf, leaf_hash, Collide}
 use Rattle.seal.specs.Tree.{climb, sealed}
 use Rattle.seal.specs.SealLaws.{sealed_at}
@@ -19,6 +20,10 @@ use Rattle.receipt_check.specs.Rows.{Cells, plain_text, split_rows}
 use Rattle.receipt_check.specs.Receipt.{Receipt, lists_text, read, result_text}
 use Rattle.receipt_check.specs.Faults.{digests_of, plain_number, receipt_fault}
 use Rattle.receipt_check.specs.Good.{IsGoodReceipt}
+use Rattle.receipt_check.specs.Pair.{compared_fault, content_of, difference}
+use Rattle.receipt_check.specs.declared.kind.Kind.TheVariants.{Programme, Resident}
+use Rattle.docket_names.specs.Texts.{number_in}
+use Rattle.settle_law.specs.Stable.{IsStable}
 
 -- What an office seals: its secret, the docket, the real names of a key, and the texts of all members before the match and,
 -- if there is a sheet, after it.
@@ -37,7 +42,7 @@ lists_root s = published s.secret Lists s.lists
 abbrev pub result_root : Sealed → Option (List ℕ)
 result_root s = option_map (published s.secret Outcome) s.results
 
--- the texts of a docket and its sheet
+-- what is sealed has the texts of the members of a docket with a sheet, before the match and after it
 pub record AreTextsOfCase (docket sheet : List ℕ) (s : Sealed) : Type 0 where
   pub c : CaseParts
   pub read : IsCaseIn docket sheet c
@@ -47,31 +52,30 @@ pub record AreTextsOfCase (docket sheet : List ℕ) (s : Sealed) : Type 0 where
   pub are_results : AreResultTexts c results
   pub results_are : s.results ≡ Some results
 
--- the texts of a docket without a sheet
+-- what is sealed has the texts of the members of a docket without a sheet, only before the match
 pub record AreTextsOfDocket (docket : List ℕ) (s : Sealed) : Type 0 where
   pub read : IsDocketIn docket [] [] s.docket
   pub lists_are : s.lists ≡ lists_texts s.docket (draft_in docket []) s.real
   pub results_are : s.results ≡ None
 
--- the texts of the files
+-- what is sealed has the texts that these files give, with or without a sheet's file
 abbrev pub AreTextsOf : List ℕ → Option (List ℕ) → Sealed → Type 0
 AreTextsOf docket None s = AreTextsOfDocket docket s
 AreTextsOf docket (Some sheet) s = AreTextsOfCase docket sheet s
 
--- this is what is sealed of the files
+-- what is sealed has the secret, the real names and the texts that these files give
 pub record IsSealed (docket : List ℕ) (sheet key : Option (List ℕ)) (secret_text : List ℕ) (s : Sealed) : Type 0 where
   pub is_secret : secret_of secret_text ≡ Ok s.secret
   pub are_real : AreReal s.docket key s.real
   pub texts : AreTextsOf docket sheet s
 
--- Of some files without a key only one thing is sealed. So the receipts that are written belong to the roots that are
--- written.
+-- of some files only one thing is sealed, so the receipts that are written belong to the roots that are written
 abbrev pub OneSealingLaw : Type 0
 OneSealingLaw =
-    (docket : List ℕ) (sheet : Option (List ℕ)) (secret_text : List ℕ) (s s' : Sealed) →
-    IsSealed docket sheet None secret_text s → IsSealed docket sheet None secret_text s' → s ≡ s'
+    (docket : List ℕ) (sheet key : Option (List ℕ)) (secret_text : List ℕ) (s s' : Sealed) →
+    IsSealed docket sheet key secret_text s → IsSealed docket sheet key secret_text s' → s ≡ s'
 
--- what is written when the roots are wanted
+-- what is written when the roots are wanted: the rows of the roots of what is sealed
 pub record WritesRoots (docket : List ℕ) (sheet key : Option (List ℕ)) (secret_text text : List ℕ) : Type 0 where
   pub s : Sealed
   pub is_sealed : IsSealed docket sheet key secret_text s
@@ -83,25 +87,24 @@ RootsLaw =
     (docket : List ℕ) (sheet key : Option (List ℕ)) (secret_text text : List ℕ) →
     IsServed Roots docket sheet key secret_text text → WritesRoots docket sheet key secret_text text
 
--- What is written when receipts are wanted without a key: a receipt for each member, and each is good under the published
--- roots.
-pub record WritesGoodReceipts (docket : List ℕ) (sheet : Option (List ℕ)) (secret_text text : List ℕ) : Type 0 where
+-- what is written when receipts are wanted: a receipt for each member, and each is good under the published roots
+pub record WritesGoodReceipts (docket : List ℕ) (sheet key : Option (List ℕ)) (secret_text text : List ℕ) : Type 0 where
   pub s : Sealed
-  pub is_sealed : IsSealed docket sheet None secret_text s
+  pub is_sealed : IsSealed docket sheet key secret_text s
   pub text_is : text ≡ receipts_text s.secret s.docket s.lists s.results
   pub programmes : (p : ℕ) → p < length s.docket.instance.quotas →
       IsGoodReceipt (lists_root s) (result_root s) (receipt_of s.secret (codes "P") (programme_name s.docket p) s.lists s.results p)
   pub residents : (r : ℕ) → r < length s.docket.instance.resident_lists →
       IsGoodReceipt (lists_root s) (result_root s) (receipt_of s.secret (codes "R") (resident_name s.docket r) s.lists s.results (length s.docket.instance.quotas + r))
 
--- each receipt that is written without a key is good
+-- each receipt that is written is good under the published roots
 abbrev pub GoodReceiptsLaw : Type 0
 GoodReceiptsLaw =
-    (docket : List ℕ) (sheet : Option (List ℕ)) (secret_text text : List ℕ) →
-    IsServed Receipts docket sheet None secret_text text → WritesGoodReceipts docket sheet secret_text text
+    (docket : List ℕ) (sheet key : Option (List ℕ)) (secret_text text : List ℕ) →
+    IsServed Receipts docket sheet key secret_text text → WritesGoodReceipts docket sheet key secret_text text
 
--- The fields of an opening have a salt and a path, and what is hashed from the leaf with this salt and this text up to the
--- published root collides with what is hashed for the tree's leaf at this place.
+-- The fields of an opening are a salt and a path. What is hashed from the leaf with this salt and this text up to the
+-- published root collides with what is hashed for the tree's own leaf at this place.
 pub record CollidesAt (leaves : List Leaf) (count index : ℕ) (fields : Cells) (text : List ℕ) : Type 0 where
   pub salt : List ℕ
   pub path : List (List ℕ)
@@ -111,13 +114,14 @@ pub record CollidesAt (leaves : List Leaf) (count index : ℕ) (fields : Cells) 
   pub collide : Collide (sealed index count (record { salt = salt; text = text }) path top)
       (sealed_at leaves index (slice_index_or leaves index (record { salt = salt; text = text })))
 
--- The text is the sealed text of the member at this place, and the texts are as many as the receipt says; or two lists of
--- hashed bytes collide.
+-- The text is that sealed of the member at this place, and there are as many texts as the receipt says, or two lists
+-- of hashed bytes collide.
 abbrev pub IsSealedText : List ℕ → Section → List (List ℕ) → ℕ → ℕ → Cells → List ℕ → Type 0
 IsSealedText secret section texts count index fields text =
     ((count ≡ length texts) × (slice_get texts index ≡ Some text)) ⊎ CollidesAt (leaves_from secret section 0 texts) count index fields text
 
--- what a receipt shows of what was sealed: it has a member's number, and the texts that were sealed at this place
+-- What a receipt shows of what was sealed. It has a member's number, and its texts are those sealed at this place, or
+-- hashed bytes collide.
 pub record ShowsSealed (s : Sealed) (r : Receipt) : Type 0 where
   pub count : ℕ
   pub index : ℕ
@@ -132,3 +136,40 @@ SealedReceiptLaw =
     (docket : List ℕ) (sheet key : Option (List ℕ)) (secret_text : List ℕ) (s : Sealed) (bytes : List ℕ) →
     IsSealed docket sheet key secret_text s → receipt_fault (lists_root s) (result_root s) bytes ≡ None →
     ShowsSealed s (read (split_rows (plain_text bytes)))
+
+-- For each member's number a receipt of this member, good under the root of the lists and this root of a result, with
+-- the docket's number of members.
+pub record AreReceiptsOf (s : Sealed) (result : List ℕ) (bytes : ℕ → List ℕ) : Type 0 where
+  pub good : (i : ℕ) → i < length s.lists → compared_fault (length s.lists) (lists_root s) (length s.lists) result (bytes i) ≡ None
+  pub numbers : (i : ℕ) → i < length s.lists → plain_number (content_of (bytes i)).index ≡ Some i
+
+-- for each resident and each programme, the two receipts agree
+abbrev pub AllAgree : ℕ → (ℕ → List ℕ) → Type 0
+AllAgree count bytes =
+    (i j : ℕ) → i < count → j < count → (content_of (bytes i)).kind ≡ Resident → (content_of (bytes j)).kind ≡ Programme →
+    difference (content_of (bytes i)) (content_of (bytes j)) ≡ None
+
+-- the number of the programme with this name
+abbrev pub programme_named : Contents → Option (List ℕ) → Option ℕ
+programme_named d None = None
+programme_named d (Some name) = number_in d.programmes name
+
+-- the placement that the residents' receipts tell; a resident's number stands behind those of all programmes
+abbrev pub told_placement : Contents → (ℕ → List ℕ) → List (Option ℕ)
+told_placement d bytes =
+    map (λ r. programme_named d (content_of (bytes (length d.instance.quotas + r))).own) (range_with_len 0 (length d.instance.resident_lists))
+
+-- for one of these receipts, the hashed bytes of its opening collide with those of the sealed lists
+pub record OneCollides (s : Sealed) (bytes : ℕ → List ℕ) : Type 0 where
+  pub index : ℕ
+  pub is_member : index < length s.lists
+  pub collides : CollidesAt (leaves_from s.secret Lists 0 s.lists) (length s.lists) index (content_of (bytes index)).opening (lists_text (content_of (bytes index)))
+
+-- Let some root of a result be published, and let each member have a receipt that is good under it and under the root
+-- of the docket's lists. If the receipts of each resident and each programme agree, the placement that they tell is
+-- stable for the docket, or two lists of hashed bytes collide.
+abbrev pub AgreeingReceiptsLaw : Type 0
+AgreeingReceiptsLaw =
+    (docket : List ℕ) (sheet key : Option (List ℕ)) (secret_text : List ℕ) (s : Sealed) (result : List ℕ) (bytes : ℕ → List ℕ) →
+    IsSealed docket sheet key secret_text s → AreReceiptsOf s result bytes → AllAgree (length s.lists) bytes →
+    IsStable s.docket.instance (told_placement s.docket bytes) ⊎ OneCollides s bytes

@@ -1,13 +1,16 @@
 //! The laws of what is sealed, and of receipts.
 
-ghost use Rattle.receipt_theorem.specs.Laws.{GoodReceiptsLaw, OneSealingLaw, RootsLaw, SealedReceiptLaw};
+ghost use Rattle.receipt_theorem.specs.Laws.{AgreeingReceiptsLaw, GoodReceiptsLaw, OneSealingLaw, RootsLaw, SealedReceiptLaw};
 
-/// The rows of roots that are written are those of what is sealed of the files.
+use match_reasons::law_pairs;
+
+/// The rows of roots that are written for some files are those of what is sealed of these files.
 pub fn law_published_roots()
     ensures { RootsLaw }
 {}
 
-/// Of some files only one thing is sealed. So receipts and roots that are written of the same files belong together.
+/// Only one thing can be sealed of given files. So receipts and roots that are written for the same files belong
+/// together.
 pub fn law_one_sealing()
     ensures { OneSealingLaw }
 {}
@@ -17,8 +20,17 @@ pub fn law_good_receipts()
     ensures { GoodReceiptsLaw }
 {}
 
-/// A receipt that passes the check under the published roots has the texts that were sealed of the member with its number,
-/// and the number of members; or two lists of hashed bytes collide, and are named.
+/// A receipt that passes the check under the published roots has the texts that were sealed of the member with its
+/// number, and the right number of members. Or two lists of hashed bytes collide, and the law names them.
 pub fn law_sealed_receipt()
     ensures { SealedReceiptLaw }
 {}
+
+/// Let each member's receipt be good under the root of the docket's lists and under one root of a result, and let the
+/// receipts of each resident and each programme agree. Then the placement that they tell is stable. Or two lists of
+/// hashed bytes collide, and the law names them.
+pub fn law_agreeing_receipts()
+    ensures { AgreeingReceiptsLaw }
+{
+    law_pairs();
+}

@@ -3,4 +3,7 @@
 
 mod laws;
 
-pub use laws::{law_good_receipts, law_one_sealing, law_published_roots, law_sealed_receipt};
+pub use laws::{
+    law_agreeing_receipts, law_good_receipts, law_one_sealing, law_published_roots,
+    law_sealed_receipt,
+};

@@ -18,7 +18,7 @@ pub record IsLettered (row : Fields) : Type 0 where
   pub is : row ≡ (letter ∷ []) ∷ rest
   pub no_mark : (letter == 239) ≡ false
 
--- each record is so
+-- the first field of each record is one byte long, and this byte does not begin a byte order mark
 unfoldable pub AreLettered : List Fields → Type 0
 AreLettered [] = ⊤
 AreLettered (row ∷ rest) = IsLettered row × AreLettered rest

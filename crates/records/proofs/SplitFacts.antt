@@ -7,7 +7,7 @@ pub split_start : (all : Option (List Fields)) → IsSplit all [] all
 split_start None = tt
 split_start (Some rows) = (rows, refl, refl)
 
--- the records read so far, after one more record is read
+-- after one more record was read, all records are those that were read and those that are left
 pub split_more : (all : Option (List Fields)) (done : List Fields) (left after : Option (List Fields)) (row : Fields)
     → IsSplit all done left → GivesRow left after true row → IsSplit all (done ++ row ∷ []) after
 split_more None done left after row s g = tt
@@ -16,7 +16,7 @@ split_more (Some rows) done (Some l) after row s g =
     let same : l ≡ s.0 = cc s.1 in
     (g.0, g.1, s.2 ∙ ap (λ (r : List Fields). done ++ r) (sym same ∙ g.2) ∙ sym (append_assoc done (row ∷ []) g.0))
 
--- at the end, the records read are all records
+-- once no record is left, those that were read are all records
 pub split_end : (all : Option (List Fields)) (done : List Fields) (left after : Option (List Fields)) (row : Fields)
     → IsSplit all done left → GivesRow left after false row → AreAll all done
 split_end None done left after row s g = tt

@@ -7,23 +7,24 @@ use Rattle.csv.specs.Machine.{line_feed}
 use Rattle.std.specs.Borrow.{MutBor}
 use Rattle.records.specs.declared.writer.RowWriter.{RowWriter}
 
--- how rows are written: by the defaults of csv, but with any number of fields
+-- how rows are written: as `csv` does by default, but with any number of fields in a row
 abbrev pub row_setup : WriterBuilder
 row_setup = with_flexible default_writer true
 
--- the text of a row, with a line feed at the end
+-- the text of a row with these fields, with a line feed at the end
 unfoldable pub row : List (List ℕ) → List ℕ
 row fields = row_text row_setup fields
 
--- the end of a row with these fields: a line feed, and two quotes before it if the row would otherwise be empty
+-- how the row with these fields ends: with a line feed, and with two quotes before it if the row would otherwise be
+-- empty
 abbrev pub row_end : List (List ℕ) → List ℕ
 row_end fields = (if is_blank row_setup fields then quote_mark ∷ quote_mark ∷ [] else []) ++ line_feed ∷ []
 
--- the bytes that the writer holds, if they are known, followed by the rows that wait in the buffer
+-- all bytes of the rows: those that the writer holds, if they are known, then those that wait in the buffer
 abbrev pub held : {W : Type 0} → (W → Option (List ℕ)) → RowWriter W → Option (List ℕ)
 held contents rows = append_known (contents rows.writer.now) rows.waiting.now.items
 
--- the rows go to the borrowed writer, and these bytes wait in the buffer
+-- the rows go to the borrowed writer, and exactly these bytes wait in the buffer
 abbrev pub IsOver : {W : Type 0} → RowWriter W → MutBor W → List ℕ → Type 0
 IsOver rows lent waiting =
     (rows.writer.ghost_name ≡ lent.ghost_name) × (rows.writer.now ≡ lent.now) × (rows.waiting.now.items ≡ waiting)
@@ -36,6 +37,6 @@ Adds contents old new text = (new.writer.ghost_name ≡ old.writer.ghost_name) �
 abbrev pub Keeps : {W : Type 0} → RowWriter W → RowWriter W → Type 0
 Keeps old new = (new.writer.ghost_name ≡ old.writer.ghost_name) × (new.writer.now ≡ old.writer.now)
 
--- the bytes that the writer holds grew by exactly this text
+-- if the bytes that the writer holds are known, they grew by exactly this text
 abbrev pub Writes : {W : Type 0} → (W → Option (List ℕ)) → W → W → List ℕ → Type 0
 Writes contents old new text = Appends (contents old) (contents new) text

@@ -8,14 +8,14 @@ use crate::reading::field;
 use csv::ByteRecord;
 use std::alloc::AllocError;
 
-// Whether a field with this byte has to be written between quotes.
+// Whether a field that has this byte is written between quotes.
 fn is_marked(b: u8) -> bool
     ensures { result ≡ needs_byte default_writer b }
 {
     b == b',' || b == b'"' || b == b'\r' || b == b'\n'
 }
 
-// Whether a field has to be written between quotes.
+// Whether this field is written between quotes.
 fn is_quoted(field: &[u8]) -> bool
     ensures { result ≡ needs_quotes default_writer field.now }
 {
@@ -54,7 +54,7 @@ fn put_quoted(text: &mut Vec<u8>, field: &[u8]) -> Result<(), AllocError>
     put(text, b"\"")
 }
 
-// Adds a field.
+// Adds a field, between quotes if it needs them.
 #[inline]
 fn put_field(text: &mut Vec<u8>, field: &[u8]) -> Result<(), AllocError>
     ensures { OnOk result (Grows text.old text.new (field_text default_writer field.now)) }

@@ -65,7 +65,7 @@ pub fn next_row<R: Read>(reader: &mut Reader<R>, row: &mut ByteRecord) -> Result
     ensures gives { IfOk result (λ found. GivesRow (rows_left R.remaining reader.old)
         (rows_left R.remaining reader.new) found (fields_of row.new)) }
 
-    // The same in csv's words, whether the bytes are known or not.
+    // The same in the terms of `csv`, whether the bytes are known or not.
     ensures reads { IfOk result (λ found.
         ReadRecord R.remaining reader.old reader.new found (fields_of row.new)) }
 {

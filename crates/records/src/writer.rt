@@ -28,14 +28,14 @@ pub struct RowWriter<'a, W> {
     waiting: &'a mut Vec<u8>,
 }
 
-// Whether a field with this byte has to be written between quotes.
+// Whether a field that has this byte is written between quotes.
 fn is_marked(b: u8) -> bool
     ensures { result ≡ needs_byte row_setup b }
 {
     b == b',' || b == b'"' || b == b'\r' || b == b'\n'
 }
 
-// Whether a field has to be written between quotes.
+// Whether this field is written between quotes.
 fn is_quoted(field: &[u8]) -> bool
     ensures { result ≡ needs_quotes row_setup field.now }
 {
@@ -64,8 +64,8 @@ impl<'a, W: Write> RowWriter<'a, W> {
         }
     }
 
-    // Sends the buffer to the writer. If the empty buffer is too small for these bytes, sends them too. This is a
-    // function of its own, so that only the test for room in `put` is inlined.
+    // Sends the buffer's bytes to the writer, and then these bytes, too, if even the empty buffer is too small for
+    // them. This is a function of its own, so that only the test for room in `put` is inlined.
     #[cold]
     #[inline(never)]
     fn put_past(&mut self, bytes: &[u8]) -> Result<(), WriteFailed>
@@ -87,7 +87,7 @@ impl<'a, W: Write> RowWriter<'a, W> {
         Ok(())
     }
 
-    // Adds these bytes to the buffer.
+    // Adds these bytes to the buffer, whose bytes go to the writer first if there is no room.
     #[inline]
     fn put(&mut self, bytes: &[u8]) -> Result<(), WriteFailed>
         ensures { OnOk result (Adds W.contents self.old self.new bytes.now) }
@@ -125,7 +125,7 @@ impl<'a, W: Write> RowWriter<'a, W> {
         self.put(b"\"")
     }
 
-    // Adds a field.
+    // Adds a field, between quotes if it needs them.
     #[inline]
     fn put_field(&mut self, field: &[u8]) -> Result<(), WriteFailed>
         ensures { OnOk result (Adds W.contents self.old self.new (field_text row_setup field.now)) }
@@ -148,7 +148,7 @@ impl<'a, W: Write> RowWriter<'a, W> {
         }
     }
 
-    // Adds the end of a row with these fields.
+    // Adds the end of the row that has these fields.
     fn put_end(&mut self, fields: &[&[u8]]) -> Result<(), WriteFailed>
         ensures { OnOk result
             (Adds W.contents self.old self.new (row_end (map (λ f. f.now) fields.now))) }
@@ -160,7 +160,7 @@ impl<'a, W: Write> RowWriter<'a, W> {
         }
     }
 
-    /// Adds a row to the buffer. If the buffer is full, its bytes go to the writer.
+    /// Adds a row to the buffer. When the buffer is full, its bytes go to the writer.
     pub fn push(&mut self, fields: &[&[u8]]) -> Result<(), WriteFailed>
         ensures { OnOk result
             (Adds W.contents self.old self.new (row (map (λ f. f.now) fields.now))) }

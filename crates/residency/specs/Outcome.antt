@@ -7,7 +7,7 @@ use Rattle.exchange_core.specs.Legal.{IsLegal, IsClosed}
 use Rattle.exchange_core.specs.Left.{given}
 use Rattle.settle_law.specs.Stable.{IsStable, IsSettled}
 
--- some closed legal list gives the placement
+-- the placement is what some legal list of events with a close gives
 pub record IsGiven (inst : Instance) (cap : Capacity) (m : List (Option ℕ)) : Type 0 where
   pub journal : List Event
   pub legal : IsLegal inst cap journal

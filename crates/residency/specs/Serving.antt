@@ -40,7 +40,7 @@ wanted_text d cap ByWorker j by = journal_text d cap j (Some by)
 abbrev pub match_text : Contents → Capacity → JournalForm → List (Option ℕ) → List Event → ByWorkerParts → List ℕ
 match_text d cap form m j by = sheet_text d m ++ wanted_text d cap form j by
 
--- the journal that a match's options ask for
+-- the journal in the form that a match's options ask for, with their capacity
 abbrev pub wanted_journal : Contents → MatchOptions → List Event → ByWorkerParts → List ℕ
 wanted_journal d o j by = wanted_text d o.capacity o.journal j by
 
@@ -87,11 +87,11 @@ IsAuditFault d fault = (told : AnswerFault) × (fault ≡ fault_told told) × Is
 abbrev pub IsReplayFault : Contents → ServeFault → Type 0
 IsReplayFault d fault = (told : AnswerFault) × (fault ≡ fault_told told) × IsAnswerFault d told
 
--- the bytes are a docket within these limits, of which P holds
+-- the bytes are a docket without a fault within these limits, and P holds of the docket
 abbrev pub AreDocketWithin : Limits → (Contents → Type 0) → List ℕ → Type 0
 AreDocketWithin limits P bytes = (fault_within limits bytes ≡ None) × P (docket_of bytes)
 
--- the bytes are a docket within the standard limits, of which P holds
+-- the bytes are a docket without a fault within the standard limits, and P holds of the docket
 abbrev pub AreDocket : (Contents → Type 0) → List ℕ → Type 0
 AreDocket P bytes = (first_fault bytes ≡ None) × P (docket_of bytes)
 
@@ -118,7 +118,7 @@ abbrev pub IsBeforeWriting : ServeFault → Type 0
 IsBeforeWriting (Docket fault) = fault ≢ docket.Write
 IsBeforeWriting fault = Unit {0}
 
--- the same, of a call within limits
+-- a fault, of a call within limits, before which nothing was written: any fault but the writer's
 abbrev pub IsBeforeWritingWithin : LimitsFault → Type 0
 IsBeforeWritingWithin (Reading fault) = Unit {0}
 IsBeforeWritingWithin (Serving fault) = IsBeforeWriting fault

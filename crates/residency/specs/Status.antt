@@ -24,12 +24,12 @@ fault_status_of NoJournal = 3
 fault_status_of (Run fault) = 1
 fault_status_of Memory = 1
 
--- the status after a call
+-- the exit status after a call that gave this answer
 abbrev pub exit_status_of : Result Status ServeFault → ℕ
 exit_status_of (Ok status) = status_of status
 exit_status_of (Err fault) = fault_status_of fault
 
--- the status after a call within limits
+-- the exit status after a call within limits that gave this answer
 abbrev pub exit_status_within_of : Result Status LimitsFault → ℕ
 exit_status_within_of (Ok status) = status_of status
 exit_status_within_of (Err (Reading fault)) = records_status_of fault

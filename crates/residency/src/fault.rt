@@ -5,7 +5,7 @@ use docket::{DocketFault, RecordsFault};
 use match_pool::RunFault;
 use thiserror::Error;
 
-/// Why the answer about a docket was not written.
+/// Why the answer about a docket was not written, or not all of it.
 #[derive(Debug, Drop, PartialEq, Eq, Error)]
 pub enum ServeFault {
     /// The docket could not be read, or the answer could not be written.
@@ -25,7 +25,8 @@ pub enum ServeFault {
     Memory,
 }
 
-/// Why the answer about a docket within limits that the caller chose was not written.
+/// Why the answer about a docket was not written, or not all of it, if the docket is read within
+/// limits that the caller chose.
 #[derive(Debug, Drop, PartialEq, Eq, Error)]
 pub enum LimitsFault {
     /// The docket could not be read within the limits.

@@ -96,7 +96,7 @@ where
 {
     law_one_settled();
     let inst = docket.instance();
-    // For the proof alone: the rankings of an instance are mutual and within the limits.
+    // Only the proof needs this call: by its clause the rankings of an instance are mutual and within the limits.
     let _instance = inst.residents();
     let done = match run(rt, alloc, inst, options.capacity, options.workers, gate) {
         Ok(done) => done,
@@ -235,8 +235,8 @@ pub fn serve_replay<R: Read + Drop, W: Write, H: RandomSource>(
     }
 }
 
-// Does over a docket what a command line asks. A match leaves the memory of the mailboxes and the agents to the operating
-// system.
+// Does what a command line asks, over a docket. A match leaves the memory of the mailboxes and of the agents to the
+// operating system.
 fn serve_docket<W, G, H>(
     rt: H,
     alloc: Global,
@@ -265,7 +265,7 @@ where
     }
 }
 
-// What becomes of the memory that an order took.
+// What is done with the memory that an order took.
 fn spent_by(order: &Order) -> Spent {
     match order {
         Order::Match(_) => Spent::LeftToTheSystem,

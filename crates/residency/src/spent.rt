@@ -11,7 +11,7 @@ pub(crate) enum Spent {
 }
 
 impl Spent {
-    /// Drops a value, or leaves its memory to the operating system.
+    /// Frees the memory of a value, or leaves it to the operating system.
     pub(crate) fn let_go<T: Drop>(self, value: T) {
         match self {
             Spent::GivenBack => drop(value),

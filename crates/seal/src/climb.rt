@@ -5,8 +5,8 @@ ghost use Rattle.seal.specs.Tree.{opened};
 
 use crate::hashes::{node_of, published};
 
-/// Whether the hash of a leaf opens this published root by this path. The leaf stands at place `index` of a tree with `count`
-/// leaves. The answer is false if the place is past the count, or if the path has a wrong length.
+/// Whether the hash of a leaf opens this published root by this path. The leaf stands at place `index` of a tree with
+/// `count` leaves. The answer is no if the place is not below the count, or if the path has a wrong length.
 pub fn opens(
     root: &[u8; 32],
     count: usize,

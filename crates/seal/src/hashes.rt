@@ -1,4 +1,4 @@
-//! The hashes of a tree: the hash of a leaf with its salt, and the hash of a node over two hashes. The salt makes it
+//! The hashes of a tree: that of a leaf with its salt, and that of a node over two hashes. The salt makes it
 //! impossible to guess a leaf from its hash.
 
 ghost use Rattle.std.specs.Prelude.{◌≡◌, ◌∷◌, ◌++◌};

@@ -7,8 +7,8 @@ use std::alloc::Global;
 use std::process::Abort;
 use std::test::Fail;
 
-// The leaves of Certificate Transparency's test vectors. Beside each leaf stands the root of the tree of all leaves
-// before it.
+// The leaves of Certificate Transparency's test vectors. With each leaf stands the root of the tree of all leaves
+// before this one.
 const PUBLISHED: [(&[u8], &str); 9] = [
     (
         b"",
@@ -102,8 +102,8 @@ fn plain(text: &[u8]) -> [u8; 32] {
     hasher.finalize()
 }
 
-// Tests that the root of these hashes is `wanted`, also for a tree that is stored whole. Each leaf opens the root only
-// from its own place and by its own path.
+// Tests that the root of these hashes is `wanted`, computed at once and in a tree that is stored whole. Each leaf has
+// to open the root from its own place and by its own path only.
 fn opens_each<R: Abort>(
     rt: &R,
     alloc: Global,

@@ -29,7 +29,7 @@ impl Model for Tree {
         × (t.nodes.items ≡ all_levels (take t.count t.nodes.items)) };
 }
 
-// Appends the level above the last level, which begins at `start`.
+// Appends the level above the last one, which begins at `start`.
 fn push_parents(nodes: &mut Vec<[u8; 32]>, start: usize) -> Result<(), AllocError>
     requires { start ≤ vec_len nodes.old }
     ensures { OnOk result

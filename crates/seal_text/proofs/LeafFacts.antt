@@ -19,7 +19,7 @@ unfolding leaves_from
 length-leaves_from secret section i [] = refl
 length-leaves_from secret section i (x ∷ xs) = ap suc (length-leaves_from secret section (i + 1) xs)
 
--- one hash for each text
+-- there is one hash for each text
 pub length-hashes_of : (secret : List ℕ) (section : Section) (texts : List (List ℕ)) → length (hashes_of secret section texts) ≡ length texts
 length-hashes_of secret section texts = length-map (leaves_from secret section 0 texts) leaf_hash ∙ length-leaves_from secret section 0 texts
 
@@ -31,7 +31,8 @@ pub no_hashes : (secret : List ℕ) (section : Section) → hashes_of secret sec
 unfolding leaves_from
 no_hashes secret section = refl
 
--- the hashes of the first leaves, and one more
+-- the hashes of the leaves of the first i + 1 texts are those of the first i and the hash of the
+-- next text's leaf
 pub hashes_next : (secret : List ℕ) (section : Section) (texts : List (List ℕ)) (i : ℕ) → i < length texts →
     hashes_of secret section (take (i + 1) texts) ≡ hashes_of secret section (take i texts) ++ leaf_hash (leaf_of secret section i (get_or texts i [])) ∷ []
 hashes_next secret section texts i within =
@@ -42,7 +43,8 @@ hashes_next secret section texts i within =
     ∙ ap (λ (t : List Leaf). leaves_from secret section 0 (take i texts) ++ t) (no_leaf_more secret section i text))
     ∙ map-append leaf_hash (leaves_from secret section 0 (take i texts)) (leaf_of secret section i text ∷ [])
 
--- a hash was pushed: that of the leaf of the text in its place
+-- if the hash of the leaf of text i was added to the hashes of the first i texts, there are the
+-- hashes of the first i + 1
 pub hash_pushed : (secret : List ℕ) (section : Section) (texts : List (List ℕ)) (i : ℕ) (hash salt text : List ℕ) (old new : List (List ℕ)) → i < length texts
     → old ≡ hashes_of secret section (take i texts) → new ≡ old ++ hash ∷ [] → hash ≡ leaf_hash (record { salt = salt; text = text }) → salt ≡ salt_of secret section i
     → text ≡ get_or texts i [] → new ≡ hashes_of secret section (take (i + 1) texts)

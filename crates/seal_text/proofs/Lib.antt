@@ -7,3 +7,4 @@ pub mod ServeFacts
 pub mod ReadingFacts
 pub mod OpenFacts
 pub mod TextLaw
+mod CompareFacts

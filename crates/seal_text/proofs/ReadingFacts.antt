@@ -17,19 +17,21 @@ use Rattle.seal_text.specs.declared.fault.SealFault.{SealFault}
 use Rattle.seal_text.specs.declared.fault.SealFault.TheVariants as seal
 use Rattle.seal_text.specs.declared.serve.Wanted.{Wanted}
 
--- the case of a docket that was read from the files
+-- if a docket was read from the files with its lists, the case made of both is the case in these
+-- files
 pub case_read : (d s : List ℕ) (contents : Contents) (written : Written) (c : CaseParts) → IsInFilesWithLists Standard d s [] contents written
     → c.docket ≡ contents → c.written ≡ written → c.docket.sheet ≡ Some c.sheet → IsCaseIn d s c
 case_read d s contents written c h same lists has = record { read = rw (same, lists) h; has_sheet = has }
 
--- memory may run out over any files
+-- that memory runs out is a fault that reading any files may have
 pub reading_memory : (d s j : List ℕ) → IsReadingFault d s j files.Memory
 reading_memory d s j = record { first = record { file = part.Docket; fault = records.Docket docket.Memory }; is_first = inl (inl refl); is_told = refl }
 
 pub no_memory : (d s : List ℕ) → IsCaseFault d s files.Memory
 no_memory d s = inl (reading_memory d s [])
 
--- why a key gives no real names, as a fault of the files with the key, and of the case
+-- why a key gives no real names is why neither the files with this key nor a case in them can be
+-- sealed
 pub key_unmade : (wanted : Wanted) (docket : List ℕ) (sheet key : Option (List ℕ)) (d : Contents) (fault : SealFault) → IsDocketIn docket (unwrap_or sheet []) [] d
     → IsOfKey key (IsNamesFault d) fault → IsUnmade wanted docket sheet key fault
 key_unmade wanted docket sheet key d (seal.Secret fault) read h = h
@@ -43,7 +45,7 @@ key_untold wanted c key (seal.Files fault) h = absurd h
 key_untold wanted c key (seal.Key fault) h = h
 key_untold wanted c key seal.Unstable h = absurd h
 
--- what is not told of a case is not made of its files
+-- what can't be told of a case in some files can't be made of these files
 pub case_unmade : (wanted : Wanted) (docket sheet : List ℕ) (key : Option (List ℕ)) (c : CaseParts) (fault : SealFault) → IsCaseIn docket sheet c → IsUntold wanted c key fault
     → IsUnmade wanted docket (Some sheet) key fault
 case_unmade wanted docket sheet key c (seal.Secret fault) read h = h
@@ -51,7 +53,7 @@ case_unmade wanted docket sheet key c (seal.Files fault) read h = rw h (no_memor
 case_unmade wanted docket sheet key c (seal.Key fault) read h = record { d = c.docket; read = read.read.docket_is; is_fault = h }
 case_unmade wanted docket sheet key c seal.Unstable read h = record { c = c; read = read; untold = h }
 
--- what is not made is not written
+-- what can't be made of some files can't be written either, for the same reason
 pub unwritten : (wanted : Wanted) (docket : List ℕ) (sheet key : Option (List ℕ)) (secret : List ℕ) (fault : SealFault) → IsUnmade wanted docket sheet key fault
     → IsSealFault wanted docket sheet key secret fault
 unwritten wanted docket sheet key secret (seal.Secret fault) h = absurd h

@@ -18,7 +18,7 @@ use Rattle.seal_text.specs.Grown.{member_count, texts_of}
 use Rattle.seal_text.specs.Serving.{draft_in, text_of}
 use Rattle.seal_text.specs.declared.serve.Wanted.{Wanted}
 
--- one text of the lists for each member
+-- there is one text of the lists for each member
 pub lists_counted : (d : Contents) (draft : Draft) (real : Real) (texts : List (Vec ℕ)) → texts_of texts ≡ lists_texts d draft real → length texts ≡ member_count d
 lists_counted d draft real texts e =
     let P = map (programme_lists d draft real) (range_with_len 0 (length d.instance.quotas)) in
@@ -27,7 +27,7 @@ lists_counted d draft real texts e =
     let r = length-map-range_with_len (resident_lists d draft real) 0 (length d.instance.resident_lists) in
     sym (length-map texts (λ (text : Vec ℕ). text.items)) ∙ ap (λ (t : List (List ℕ)). length t) e ∙ length-append P R ∙ omega (arith, p, r)
 
--- one text of the result for each member
+-- there is one text of the result for each member
 pub results_counted : (c : CaseParts) (texts : List (Vec ℕ)) → AreResultTexts c (texts_of texts) → length texts ≡ member_count c.docket
 results_counted c texts h =
     let P = map (programme_result c.docket c.sheet) (range_with_len 0 (length c.docket.instance.quotas)) in
@@ -35,20 +35,22 @@ results_counted c texts h =
     let r = h.are.each in
     sym (length-map texts (λ (text : Vec ℕ). text.items)) ∙ ap (λ (t : List (List ℕ)). length t) h.texts_are ∙ length-append P h.residents ∙ omega (arith, p, r)
 
--- so many texts, if there are some
+-- if there are texts, and they are m, they are also n, if n is m
 pub counted_too : (texts : Option (Vec (Vec ℕ))) (m n : ℕ) → n ≡ m → IfSome texts (λ (t : Vec (Vec ℕ)). length t.items ≡ m) → IfSome texts (λ (t : Vec (Vec ℕ)). length t.items ≡ n)
 counted_too texts m n e h = let P : ℕ → Type 0 = λ k. IfSome texts (λ (t : Vec (Vec ℕ)). length t.items ≡ k) in subst P (sym e) h
 
--- what was added to nothing is the text that is wanted
+-- if a text was added to an empty one, what there is now is the text that is wanted
 pub wanted_made : (wanted : Wanted) (secret : List ℕ) (d : Contents) (lists lists' : List (List ℕ)) (results results' : Option (List (List ℕ))) (old new : List ℕ)
     → old ≡ [] → new ≡ old ++ text_of wanted secret d lists results → lists ≡ lists' → results ≡ results' → new ≡ text_of wanted secret d lists' results'
 wanted_made wanted secret d lists lists' results results' old new o n l r = n ∙ rw (o, l, r) refl
 
--- a docket that is whole has its sheet of its members
+-- if a docket is whole and has a sheet, the sheet has one entry for each resident, and names its
+-- programmes only
 pub has_sheet : (c : CaseParts) → c.docket.sheet ≡ Some c.sheet → IsWhole c.docket → HasSheet c
 has_sheet c has whole = record { whole = whole; sheet_of = whole.sheet c.sheet has }
 
--- the lists of a docket that was read are those of its records, and name its members
+-- the lists of a docket that was read from files are those of its records, and name only its
+-- members
 pub lists_of : (lim : Limits) (d s : List ℕ) (c : Contents) (w : Written) (given : List (Option (List ℕ))) → IsInFilesWithLists lim d s [] c w → AreGiven (rows_of_all d s []) c given
     → AreListsOf (draft_in d s) given w
 lists_of lim d s c w given read are = record { given_are = are.given_are; written_are = read.written_is }

@@ -41,12 +41,12 @@ row_is_line a b rest =
     ap (λ (t : List ℕ). (t ++ fields_text row_setup (b ∷ rest)) ++ 10 ∷ []) (same_field a)
     ∙ ap (λ (t : List ℕ). (field_text default_writer a ++ t) ++ 10 ∷ []) (same_fields (b ∷ rest))
 
--- the record, if there is one
+-- the record as a list of rows: one, or none
 option_rows : Option Fields → List Fields
 option_rows None = []
 option_rows (Some r) = r ∷ []
 
--- the row that withdraws, if the member is withdrawn
+-- the W row of a member, if the member is withdrawn
 gone_row : Bool → List ℕ → List ℕ → Option Fields
 gone_row true side name = Some (codes "W" ∷ side ∷ name ∷ [])
 gone_row false side name = None
@@ -61,7 +61,7 @@ unfolding gone_row
 line_gone true side name = row_is_line (codes "W") side (name ∷ [])
 line_gone false side name = refl
 
--- the withdrawal and the real name
+-- the lines of a member's withdrawal and real name are those of their rows
 lines_tail : (gone : Bool) (side name : List ℕ) (real : Option Fields) → withdrawal_if gone side name ++ line_if real ≡ lines (option_rows (gone_row gone side name) ++ option_rows real)
 unfolding lines
 lines_tail gone side name real =
@@ -73,7 +73,7 @@ lines_first : (a b : List ℕ) (rest : Fields) (more : List Fields) → row (a �
 unfolding lines
 lines_first a b rest more = ap (λ (t : List ℕ). t ++ lines more) (row_is_line a b rest)
 
--- a record that begins with a letter
+-- a record whose field 0 is one letter begins with no byte order mark
 lettered : (r : Fields) (c : ℕ) → field r 0 ≡ c ∷ [] → (c == 239) ≡ false → IsLettered r
 unfolding field field_at
 lettered [] c h k = absurd (cc h)
@@ -82,7 +82,7 @@ lettered (first ∷ rest) c h k = record { letter = c; rest = rest; is = ap (λ 
 apart : (a b : ℕ) → a ≢ b → a ≡ b → ⊥
 apart a b other same = other same
 
--- the record, if there is one, begins with this letter; the first row doesn't begin with it
+-- the record, if there is one, has this letter in field 0
 Leads : ℕ → Option Fields → Type 0
 Leads c o = (r : Fields) → o ≡ Some r → field r 0 ≡ c ∷ []
 
@@ -101,7 +101,8 @@ without_option c k (Some s) rest other l w = λ r more e lead.
     let both : c ∷ [] ≡ k ∷ [] = sym lead ∙ ap (λ (x : Fields). field x 0) (sym same) ∙ l s refl in
     other (cc both)
 
--- a record that may stand before the others is told from them
+-- if a record with this letter may stand before rows without it, two equal lists of such rows have
+-- the same record and the same rows
 option_told : (c : ℕ) (o o' : Option Fields) (rest rest' : List Fields) → Leads c o → Leads c o' → Without c rest → Without c rest'
     → option_rows o ++ rest ≡ option_rows o' ++ rest' → (o ≡ o') × (rest ≡ rest')
 unfolding option_rows Leads Without
@@ -138,7 +139,7 @@ real_told None (Some fields) e = absurd (cc e)
 real_told (Some fields) None e = absurd (cc e)
 real_told (Some fields) (Some fields') e = let same : fields ≡ fields' = cc e in rw same refl
 
--- the withdrawal and the real name, as rows
+-- the rows of a member's withdrawal and of the real name, of which each may be missing
 tail_rows : Bool → List ℕ → List ℕ → Option Fields → List Fields
 tail_rows gone side name real = option_rows (gone_row gone side name) ++ option_rows (name_record real)
 
@@ -164,7 +165,7 @@ tail_told g g' side side' name name' real real' e =
     let named = option_told 78 (name_record real) (name_record real') [] [] (real_leads real) (real_leads real') (without_none 78) (without_none 78) both in
     (gone_told g g' side side' name name' gone.0, real_told real real' named.0)
 
--- lines tell their rows
+-- two lists of rows that begin with letters are equal if their lines are
 lines_tell : (a b : List Fields) → AreLettered a → AreLettered b → lines a ≡ lines b → a ≡ b
 lines_tell a b h k e = sym (lines_round a h) ∙ ap rows_of e ∙ lines_round b k
 
@@ -199,11 +200,12 @@ resident_text d draft real r =
     ap (λ (t : List ℕ). line (list_record (codes "R") (resident_name d r) (list_of_resident d draft r)) ++ t)
     (lines_tail (is_withdrawn d.instance.residents_withdrawn r) (codes "R") (resident_name d r) (name_record (get_or real.residents r None)))
 
--- a text of digits tells its number
+-- two numbers below 2 ^ 64 are equal if their decimal digits are
 decimal_tells : (m n : ℕ) → m < 2 ^ 64 → n < 2 ^ 64 → decimal m ≡ decimal n → m ≡ n
 decimal_tells m n h k e = sym (decimal_is_IsNumeral m h).1 ∙ ap (digits_value 10) e ∙ (decimal_is_IsNumeral n k).1
 
--- the first row and the others
+-- if two texts have the same lines, each first row of the same letter, their first rows are equal,
+-- and so are the others
 first_and_more : (c : ℕ) (a b : Fields) (more more' : List Fields) → (c == 239) ≡ false → field a 0 ≡ c ∷ [] → field b 0 ≡ c ∷ [] → AreLettered more → AreLettered more'
     → lines (a ∷ more) ≡ lines (b ∷ more') → (a ≡ b) × (more ≡ more')
 unfolding AreLettered
@@ -215,7 +217,8 @@ first_is : (letter : List ℕ) (rest : Fields) → field (letter ∷ rest) 0 ≡
 unfolding field field_at
 first_is letter rest = refl
 
--- one text is of one programme
+-- if the same text is sealed of a programme in two dockets, what it tells of the programme is the
+-- same in both
 one_programme : (d d' : Contents) (draft draft' : Draft) (real real' : Real) (p : ℕ) → quota d.instance p ≤ 10000 → quota d'.instance p ≤ 10000
     → programme_lists d draft real p ≡ programme_lists d' draft' real' p → IsOneProgramme d d' draft draft' real real' p
 one_programme d d' draft draft' real real' p h k e =
@@ -249,7 +252,8 @@ one_programme d d' draft draft' real real' p h k e =
     few : (n : ℕ) → n ≤ 10000 → n < 2 ^ 64
     few n l = omega arith
 
--- one text is of one resident
+-- if the same text is sealed of a resident in two dockets, what it tells of the resident is the
+-- same in both
 one_resident : (d d' : Contents) (draft draft' : Draft) (real real' : Real) (r : ℕ) → resident_lists d draft real r ≡ resident_lists d' draft' real' r
     → IsOneResident d d' draft draft' real real' r
 one_resident d d' draft draft' real real' r e =
@@ -266,7 +270,7 @@ one_resident d d' draft draft' real real' r e =
     let tail = tail_told g g' (codes "R") (codes "R") n n' m m' same.1 in
     record { name = cc same.0; list = cc same.0; withdrawn = tail.0; real_name = tail.1 }
 
--- lists that are as long at the front are cut alike
+-- if two equal lists are cut after the same number of items, their parts are equal
 cut_alike : {A : Type 0} (xs xs' ys ys' : List A) → length xs ≡ length xs' → xs ++ ys ≡ xs' ++ ys' → (xs ≡ xs') × (ys ≡ ys')
 cut_alike [] [] ys ys' l e = (refl, e)
 cut_alike [] (x ∷ xs') ys ys' l e = absurd (omega arith)
@@ -277,7 +281,8 @@ cut_alike (x ∷ xs) (y ∷ xs') ys ys' l e =
     let same = cut_alike xs xs' ys ys' (omega arith) rest in
     (rw (first, same.0) refl, same.1)
 
--- what is made of each number is the same
+-- if lists made of the first n numbers by two functions are equal, the functions make the same of
+-- each number below n
 each_alike : (f f' : ℕ → List ℕ) (n m : ℕ) → map f (range_with_len 0 n) ≡ map f' (range_with_len 0 m) → n ≡ m → (k : ℕ) → k < n → f k ≡ f' k
 each_alike f f' n m e same k l =
     sym (get_or-map-range_with_len f 0 n k k [] l (zero-add k)) ∙ ap (λ (t : List (List ℕ)). get_or t k []) e

@@ -6,4 +6,5 @@ pub mod Serving
 pub mod Laws
 pub mod Status
 pub mod Line
+pub mod Compared
 pub mod Program

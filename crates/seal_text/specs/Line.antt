@@ -1,19 +1,20 @@
 -- Which order the words of a command line give.
 use Rattle.std.specs.Prelude.{◌≡◌, ◌⊎◌, Bool, true, false, codes, List, Option, Some, option_map}
 use Rattle.clap.specs.Words.{App, IsAmong, Row, Rule, Text, first_of, fault_of, new_app, subcommand_of, with_rule, with_subcommand}
-use Rattle.clap.specs.Simple.{on_top}
 use Rattle.clap.specs.declared.error.kind.ErrorKind.TheVariants.{MissingSubcommand}
 use Rattle.program_shell.specs.Faults.{IsErrorOf}
-use Rattle.program_shell.specs.Flags.{value_rule}
+use Rattle.program_shell.specs.Flags.{of_commands, required, value_rule, word_rule}
 use Rattle.program_shell.specs.declared.fault.LineFault.{LineFault}
 use Rattle.seal_text.specs.declared.line.Sources.{Sources}
 use Rattle.seal_text.specs.declared.line.Order.{Order}
-use Rattle.seal_text.specs.declared.line.Order.TheVariants.{Seal, Check}
+use Rattle.seal_text.specs.declared.line.Order.TheVariants.{Seal, Check, Pair, Pairs}
 use Rattle.seal_text.specs.declared.line.Roots.{Roots}
+use Rattle.seal_text.specs.declared.compare_line.Rows.{Rows}
+use Rattle.seal_text.specs.declared.compare_line.Two.{Two}
 use Rattle.seal_text.specs.declared.serve.Wanted.{Wanted}
 use Rattle.seal_text.specs.declared.serve.Wanted.TheVariants as wanted
 
--- an option with a value, which has to be given or not
+-- an option with a value; `needed` says whether it has to be given
 abbrev pub option_rule : Text → Bool → Rule
 option_rule id needed = record (value_rule id) { required = needed }
 
@@ -25,39 +26,80 @@ sealing_app name = with_rule (with_rule (with_rule (new_app name) (option_rule (
 abbrev pub checking_app : App
 checking_app = with_rule (with_rule (new_app (codes "check")) (option_rule (codes "lists") true)) (option_rule (codes "result") false)
 
--- the program's command line without its commands; the program's own name isn't among the words
-abbrev pub bare_app : App
-bare_app = on_top (λ s. record s { no_binary_name = true; has_version = true; subcommand_required = true }) (new_app (codes "residency-seal"))
+-- a command that compares: the rows of both roots have to be given
+abbrev pub comparing_app : Text → App
+comparing_app name = with_rule (with_rule (new_app name) (option_rule (codes "lists") true)) (option_rule (codes "result") true)
 
--- the program's command line with its three commands
+-- the command that compares two receipts, whose files have to be named
+abbrev pub pair_app : App
+pair_app = with_rule (with_rule (comparing_app (codes "pair")) (required (word_rule (codes "resident")))) (required (word_rule (codes "programme")))
+
+-- the command that compares the receipts of a directory, which has to be named
+abbrev pub pairs_app : App
+pairs_app = with_rule (comparing_app (codes "pairs")) (required (word_rule (codes "directory")))
+
+-- the program's command line with the commands that seal and check, but without those that compare
+abbrev pub sealed_app : App
+sealed_app = with_subcommand (with_subcommand (with_subcommand (of_commands (codes "residency-seal")) (sealing_app (codes "root")).top) (sealing_app (codes "receipts")).top) checking_app.top
+
+-- the program's command line with all its commands
 abbrev pub seal_app : App
-seal_app = with_subcommand (with_subcommand (with_subcommand bare_app (sealing_app (codes "root")).top) (sealing_app (codes "receipts")).top) checking_app.top
+seal_app = with_subcommand (with_subcommand sealed_app pair_app.top) pairs_app.top
 
--- the command that seals
+-- the word of the command that seals
 abbrev pub sealing_word : Wanted → Text
 sealing_word wanted.Roots = codes "root"
 sealing_word wanted.Receipts = codes "receipts"
 
--- the command for an order
+-- the word of the command for an order
 abbrev pub command_word : Order → Text
 command_word (Seal wanted files) = sealing_word wanted
 command_word (Check roots) = codes "check"
+command_word (Pair rows two) = codes "pair"
+command_word (Pairs rows directory) = codes "pairs"
 
--- the values name these files
+-- the values on the command line name these files
 pub record GivesFiles (rows : List Row) (files : Sources) : Type 0 where
   pub secret : first_of (codes "secret") rows ≡ Some files.secret.now
   pub sheet : first_of (codes "sheet") rows ≡ option_map (λ path. path.now) files.sheet
   pub key : first_of (codes "key") rows ≡ option_map (λ path. path.now) files.key
 
--- the values give the digits of these roots
+-- the values on the command line give the digits of these roots
 pub record GivesRoots (rows : List Row) (roots : Roots) : Type 0 where
   pub lists : first_of (codes "lists") rows ≡ Some roots.lists.now
   pub outcome : first_of (codes "result") rows ≡ option_map (λ digits. digits.now) roots.outcome
+
+-- the values on the command line give these rows of roots
+pub record GivesRows (given : List Row) (rows : Rows) : Type 0 where
+  pub lists : first_of (codes "lists") given ≡ Some rows.lists.now
+  pub outcome : first_of (codes "result") given ≡ Some rows.outcome.now
+
+-- the values on the command line name the files of these two receipts
+pub record GivesTwo (given : List Row) (two : Two) : Type 0 where
+  pub resident : first_of (codes "resident") given ≡ Some two.resident.now
+  pub programme : first_of (codes "programme") given ≡ Some two.programme.now
+
+-- the values give the rows and the two receipts
+abbrev pub GivesPair : List Row → Rows → Two → Type 0
+GivesPair given rows two = GivesRows given rows × GivesTwo given two
+
+-- the values give the rows and name the directory
+abbrev pub GivesFolder : List Row → Rows → Text → Type 0
+GivesFolder given rows directory = GivesRows given rows × (first_of (codes "directory") given ≡ Some directory)
+
+-- the values don't give both rows of roots and two receipts; `NamesNoFolder` says it of the rows and a directory
+abbrev pub NamesNoPair : List Row → Type 0
+NamesNoPair given = (rows : Rows) (two : Two) → GivesPair given rows two → ⊥
+
+abbrev pub NamesNoFolder : List Row → Type 0
+NamesNoFolder given = (rows : Rows) (directory : Text) → GivesFolder given rows directory → ⊥
 
 -- the values give what the order names
 abbrev pub GivesNamed : List Row → Order → Type 0
 GivesNamed rows (Seal wanted files) = GivesFiles rows files
 GivesNamed rows (Check roots) = GivesRoots rows roots
+GivesNamed rows (Pair published two) = GivesPair rows published two
+GivesNamed rows (Pairs published directory) = GivesFolder rows published directory.now
 
 -- this command with its values gives the order
 pub record IsOrdered (found : Option (Text × List Row)) (order : Order) : Type 0 where

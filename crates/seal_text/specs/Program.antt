@@ -10,6 +10,7 @@ use Rattle.receipt_check.specs.Good.{IsReceiptFault}
 use Rattle.receipt_check.specs.Told.{told_of}
 use Rattle.receipt_check.specs.declared.wrong.ReceiptFault.{ReceiptFault}
 use Rattle.receipt_check.specs.declared.wrong.ReceiptFault.TheVariants as receipt
+use Rattle.seal_text.specs.Compared.{EndsPair, EndsPairs}
 use Rattle.seal_text.specs.Line.{OrdersSeal, RefusesSeal}
 use Rattle.seal_text.specs.Serving.{IsSealFault, IsServed}
 use Rattle.seal_text.specs.Status.{receipt_status_of, seal_status_of}
@@ -17,7 +18,7 @@ use Rattle.seal_text.specs.declared.fault.SealFault.{SealFault}
 use Rattle.seal_text.specs.declared.fault.SealFault.TheVariants as seal
 use Rattle.seal_text.specs.declared.line.Sources.{Sources}
 use Rattle.seal_text.specs.declared.line.Order.{Order}
-use Rattle.seal_text.specs.declared.line.Order.TheVariants.{Seal, Check}
+use Rattle.seal_text.specs.declared.line.Order.TheVariants.{Seal, Check, Pair, Pairs}
 use Rattle.seal_text.specs.declared.line.Roots.{Roots}
 use Rattle.seal_text.specs.declared.serve.Wanted.{Wanted}
 
@@ -35,7 +36,7 @@ pub record AnswersSeal (wanted : Wanted) (files : Sources) (input old new : Opti
       (λ _. (text : List ℕ) × IsServed wanted docket sheet key secret text × Appends old new text)
       (λ fault. IsSealFault wanted docket sheet key secret fault × (fault ≢ seal.Files Write → new ≡ old))
 
--- The receipt is standard input. Either what it shows was appended, or this fault says why not.
+-- The receipt is standard input. Either what it shows was appended, or the answer is a fault that says why not.
 pub record AnswersCheck (lists : List ℕ) (outcome : Option (List ℕ)) (input old new : Option (List ℕ)) (answer : Result (Unit {0}) ReceiptFault)
     : Type 0 where
   pub bytes : List ℕ
@@ -44,7 +45,7 @@ pub record AnswersCheck (lists : List ℕ) (outcome : Option (List ℕ)) (input 
       (λ _. (receipt_fault lists outcome bytes ≡ None) × Appends old new (told_of outcome bytes))
       (λ fault. IsReceiptFault lists outcome bytes fault × (fault ≢ receipt.Write → new ≡ old))
 
--- what the digits of the result's root write, if they are given
+-- the result's root that its digits write, if digits are given; none inside if they write no root
 abbrev pub outcome_of : Roots → Option (Option (List ℕ))
 outcome_of roots = option_map (λ digits. digest_of digits.now) roots.outcome
 
@@ -67,7 +68,9 @@ pub record EndsChecked (roots : Roots) (input old new : Option (List ℕ)) (stat
 abbrev pub ServesSeal : Option (List ℕ) → Option (List ℕ) → Option (List ℕ) → ℕ → Order → Type 0
 ServesSeal input old new status (Seal wanted files) = EndsServed (AnswersSeal wanted files input old new) seal_status_of old new status
 ServesSeal input old new status (Check roots) = EndsBadRoot roots old new status ⊎ EndsChecked roots input old new status
+ServesSeal input old new status (Pair rows two) = EndsPair rows old new status
+ServesSeal input old new status (Pairs rows directory) = EndsPairs rows old new status
 
--- how the program ends
+-- with which status the program ends, given its words, its input, and its output before and after
 abbrev pub EndsSeal : {A E : Type 0} → Result (Vec (String A)) E → Option (List ℕ) → Option (List ℕ) → Option (List ℕ) → ℕ → Type 0
 EndsSeal words input old new status = EndsAs RefusesSeal OrdersSeal (ServesSeal input old new status) words old new status

@@ -17,7 +17,7 @@ abbrev pub tag_of : Section → ℕ
 tag_of Lists = 76
 tag_of Outcome = 82
 
--- the word of a tree's rows
+-- the word that names the tree in its rows
 abbrev pub word_of : Section → List ℕ
 word_of Lists = codes "lists"
 word_of Outcome = codes "result"
@@ -30,7 +30,7 @@ salt_of secret section i = sha256 (secret ++ tag_of section ∷ to_be_bytes w64 
 abbrev pub leaf_of : List ℕ → Section → ℕ → List ℕ → Leaf
 leaf_of secret section i text = record { salt = salt_of secret section i; text = text }
 
--- the leaves of texts, from this place on
+-- the leaves of these texts, the first of which stands at place i
 unfoldable pub leaves_from : List ℕ → Section → ℕ → List (List ℕ) → List Leaf
 leaves_from secret section i [] = []
 leaves_from secret section i (text ∷ texts) = leaf_of secret section i text ∷ leaves_from secret section (i + 1) texts

@@ -18,7 +18,7 @@ digits_of text = if ends_line text then take (length text - 1) text else text
 abbrev pub is_zero : List ℕ → Bool
 is_zero bytes = list_all (λ b. b == 0) bytes
 
--- 32 bytes, if they aren't all 0
+-- the decoded bytes as a secret, unless all are 0 or there was a fault
 abbrev pub unless_zero : Result (List ℕ) FromHexError → Result (List ℕ) SecretFault
 unless_zero (Ok bytes) = if is_zero bytes then Err Zeros else Ok bytes
 unless_zero (Err fault) = Err NotDigits

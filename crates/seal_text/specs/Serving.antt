@@ -25,7 +25,7 @@ use Rattle.seal_text.specs.declared.serve.Wanted.TheVariants.{Roots, Receipts}
 abbrev pub IsCaseIn : List ℕ → List ℕ → CaseParts → Type 0
 IsCaseIn docket sheet c = IsCaseInFiles Standard docket sheet c
 
--- what the records of a docket's and a sheet's file hand in
+-- the quotas, lists and withdrawals in the records of a docket's and a sheet's file, as a builder's input
 abbrev pub draft_in : List ℕ → List ℕ → Draft
 draft_in docket sheet = draft_of (rows_of_all docket sheet [])
 
@@ -42,7 +42,7 @@ pub record IsEarlyText (wanted : Wanted) (docket : List ℕ) (key : Option (List
   pub are_real : AreReal d key real
   pub text_is : text ≡ text_of wanted secret d (lists_texts d (draft_in docket []) real) None
 
--- whether what is wanted is told of the case: receipts are told of a stable sheet alone
+-- with `true`, what is wanted can be told of the case: receipts only of a stable sheet; with `false`, it can't
 abbrev pub IsTold : Wanted → CaseParts → Bool → Type 0
 IsTold wanted c true = wanted ≡ Receipts → IsStable c.docket.instance c.sheet
 IsTold wanted c false = (wanted ≡ Receipts) × ¬ IsStable c.docket.instance c.sheet
@@ -53,7 +53,7 @@ pub record IsUnstable (wanted : Wanted) (docket sheet : List ℕ) : Type 0 where
   pub read : IsCaseIn docket sheet c
   pub untold : IsTold wanted c false
 
--- receipts are wanted, and the sheet, if there is one, isn't stable
+-- receipts are wanted, and there is a sheet, which isn't stable
 abbrev pub IsUnfit : Wanted → List ℕ → Option (List ℕ) → Type 0
 IsUnfit wanted docket None = ⊥
 IsUnfit wanted docket (Some sheet) = IsUnstable wanted docket sheet
@@ -119,7 +119,7 @@ pub record IsUnnamed (docket : List ℕ) (sheet key : Option (List ℕ)) (fault 
   pub read : IsDocketIn docket (unwrap_or sheet []) [] d
   pub is_fault : IsSomeAnd key (λ bytes. IsNamesFault d bytes fault)
 
--- why nothing was made of the files, with the secret of the first one
+-- why no text was made of the files and the key, if the secret is good
 abbrev pub IsUnmade : Wanted → List ℕ → Option (List ℕ) → Option (List ℕ) → SealFault → Type 0
 IsUnmade wanted docket sheet key (Secret fault) = ⊥
 IsUnmade wanted docket sheet key (Files fault) = IsFilesFault docket sheet fault

@@ -69,7 +69,7 @@ lists_texts d draft real =
     map (programme_lists d draft real) (range_with_len 0 (length d.instance.quotas))
     ++ map (resident_lists d draft real) (range_with_len 0 (length d.instance.resident_lists))
 
--- these are the programmes' lists of the draft, and the lists of both sides
+-- `given` has the lists of the draft's programmes, and `written` the lists of both sides
 pub record AreListsOf (draft : Draft) (given : List (Option (List ℕ))) (written : Written) : Type 0 where
   pub given_are : given ≡ draft.programme_lists
   pub written_are : written ≡ written_of draft
@@ -81,7 +81,7 @@ pub record NameMembers (d : Contents) (given : List (Option (List ℕ))) (writte
   pub residents : (p : ℕ) (list : List ℕ) → slice_index_or given p None ≡ Some list → list_all (λ r. nat_lt r (length d.residents)) list ≡ true
   pub programmes : (r : ℕ) → r < length d.residents → list_all (λ p. nat_lt p (length d.programmes)) (list_at written.resident_lists r) ≡ true
 
--- these fields were added to a record
+-- exactly these fields were added to a record, and none is half written
 pub record Extends (old new : Row) (fields : Fields) : Type 0 where
   pub added : fields_of new ≡ fields_of old ++ fields
   pub whole : partial_of new ≡ []
@@ -115,13 +115,13 @@ pub record AreResidentResults (c : CaseParts) (n : ℕ) (texts : List (List ℕ)
   pub each : length texts ≡ n
   pub are : (r : ℕ) (text : List ℕ) → slice_get texts r ≡ Some text → IsResidentResult c r text
 
--- the texts of the first n residents after the match were added
+-- the texts of the first n residents after the match were added at the end
 pub record PushesResults (c : CaseParts) (n : ℕ) (old new : List (List ℕ)) : Type 0 where
   pub texts : List (List ℕ)
   pub are : AreResidentResults c n texts
   pub pushed : new ≡ old ++ texts
 
--- what is sealed of resident r after the match was added
+-- the text of what is sealed of resident r after the match was added
 pub record AddsResidentResult {W : Type 0} (contents : W → Option (List ℕ)) (c : CaseParts) (r : ℕ) (old new : RowWriter W) : Type 0 where
   pub text : List ℕ
   pub is : IsResidentResult c r text

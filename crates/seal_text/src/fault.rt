@@ -7,7 +7,7 @@ use thiserror::Error;
 /// Why a text is no secret.
 #[derive(Clone, Copy, Debug, PartialEq, Eq, Error)]
 pub enum SecretFault {
-    /// It isn't 64 hexadecimal digits, and maybe a line feed.
+    /// The text isn't 64 hexadecimal digits with at most one line feed after them.
     #[error("not 64 hexadecimal digits")]
     NotDigits,
     /// All its digits are zeros.
@@ -18,7 +18,7 @@ pub enum SecretFault {
 /// Why nothing was sealed.
 #[derive(Debug, PartialEq, Eq, Drop, Error)]
 pub enum SealFault {
-    /// The secret is none.
+    /// The secret's file has no secret.
     #[error(transparent)]
     Secret(SecretFault),
     /// The docket's or the sheet's file is at fault, or memory or the writer failed.
@@ -27,7 +27,8 @@ pub enum SealFault {
     /// The key gives no real names.
     #[error(transparent)]
     Key(NamesFault),
-    /// Receipts were wanted, and the sheet isn't stable. What a receipt of it says would not hold.
+    /// Receipts were wanted, but the sheet isn't stable, so that what its receipts say would not be
+    /// true.
     #[error("the sheet is not stable, so no receipts are made of it: residency-audit tells why")]
     Unstable,
 }

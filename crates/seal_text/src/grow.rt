@@ -9,7 +9,7 @@ use docket::{DocketFault, RowWriter, room_for_rows};
 use std::alloc::{AllocError, Global};
 use std::io::Write;
 
-/// Adds bytes.
+/// Adds these bytes to the text.
 #[inline]
 pub(crate) fn put(text: &mut Vec<u8>, bytes: &[u8]) -> Result<(), AllocError>
     ensures { OnOk result (Grows text.old text.new bytes.now) }
@@ -17,7 +17,7 @@ pub(crate) fn put(text: &mut Vec<u8>, bytes: &[u8]) -> Result<(), AllocError>
     text.extend_from_slice(bytes)
 }
 
-/// Adds a number in decimal.
+/// Adds a number in decimal to the text.
 pub(crate) fn put_number(text: &mut Vec<u8>, number: usize) -> Result<(), AllocError>
     ensures { OnOk result (Grows text.old text.new (decimal number)) }
 {
@@ -25,7 +25,7 @@ pub(crate) fn put_number(text: &mut Vec<u8>, number: usize) -> Result<(), AllocE
     put(text, room.format(number).as_bytes())
 }
 
-// Writes a row of these fields.
+// Writes a row with these fields.
 fn write_row<W: Write>(alloc: Global, writer: &mut W, fields: &[&[u8]]) -> Result<(), DocketFault>
     ensures { OnOk result (Appends
         (W.contents writer.old) (W.contents writer.new) (row (map (λ f. f.now) fields.now))) }
@@ -37,7 +37,7 @@ fn write_row<W: Write>(alloc: Global, writer: &mut W, fields: &[&[u8]]) -> Resul
     Ok(())
 }
 
-/// Adds a row of these fields.
+/// Adds a row with these fields to the text.
 pub(crate) fn put_row(alloc: Global, text: &mut Vec<u8>, fields: &[&[u8]]) -> Result<(), AllocError>
     ensures { OnOk result (Grows text.old text.new (row (map (λ f. f.now) fields.now))) }
 {

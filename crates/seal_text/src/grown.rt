@@ -13,9 +13,9 @@ use std::alloc::{AllocError, Global};
 /// A tree with the texts of its leaves.
 #[derive(Drop)]
 pub(crate) struct Grown {
-    /// Which tree it is.
+    /// Which of the two trees it is.
     pub(crate) section: Section,
-    /// The texts of its leaves.
+    /// The texts of the tree's leaves.
     pub(crate) texts: Vec<Vec<u8>>,
     /// The tree.
     pub(crate) tree: Tree,
@@ -37,7 +37,7 @@ fn put_root_row(
     put_row(alloc, text, &[section.word(), count, digits.as_bytes()])
 }
 
-// Adds the hashes of a path, and ends the row.
+// Adds the hashes of a path, and the end of its row.
 fn put_path(alloc: Global, text: &mut Vec<u8>, path: &[[u8; 32]]) -> Result<(), AllocError>
     ensures { OnOk result (Grows text.old text.new (path_fields path.now)) }
 {
@@ -47,7 +47,7 @@ fn put_path(alloc: Global, text: &mut Vec<u8>, path: &[[u8; 32]]) -> Result<(), 
     put(text, b"\n")
 }
 
-// Adds the word of a tree's rows.
+// Adds the word that names the tree in its rows.
 fn put_word(text: &mut Vec<u8>, section: Section) -> Result<(), AllocError>
     ensures { OnOk result (Grows text.old text.new (word_of section)) }
 {
@@ -94,7 +94,7 @@ impl Grown {
         })
     }
 
-    /// Adds the row of its root.
+    /// Adds the row of the tree's root.
     pub(crate) fn put_root(&self, alloc: Global, text: &mut Vec<u8>) -> Result<(), AllocError>
         ensures { OnOk result (Grows text.old text.new
             (root_row self.now.section (length self.now.texts.items)

@@ -7,8 +7,8 @@ pub fn law_receipt_opens()
     ensures { ReceiptOpensLaw }
 {}
 
-/// Two dockets of as many programmes, whose members' texts before the match are the same, have the same members: each has one
-/// name, quota, list and withdrawal in both.
+/// Two dockets with the same number of programmes, whose members' texts before the match are the same, have the same
+/// members: each has the same name, quota, list, withdrawal and real name in both.
 pub fn law_same_texts()
     ensures { SameTextsLaw }
 {}

@@ -16,7 +16,7 @@ pub enum Section {
 }
 
 impl Section {
-    /// The byte that tells the salts of the two trees apart.
+    /// The byte by which the salts of the two trees differ.
     pub(crate) fn tag(self) -> u8
         ensures { result ≡ tag_of self }
     {
@@ -26,7 +26,7 @@ impl Section {
         }
     }
 
-    /// The word of its rows.
+    /// The word that names the tree in its rows.
     pub(crate) fn word(self) -> &'static [u8]
         ensures { result.now ≡ word_of self }
     {

@@ -1,10 +1,13 @@
 //! Sealing a docket: the roots of its lists and of its result, and each member's receipt; and the program, which also checks
-//! a receipt.
+//! receipts and compares them.
 //!
 //! The program is `seal_words`, over the words and the streams that it is given. What the files give no contract can say, so
 //! the work is over their bytes.
 #![tactic(auto)]
 
+mod compare;
+mod compare_line;
+mod directory;
 mod fault;
 mod grow;
 mod grown;
@@ -19,6 +22,7 @@ mod serve;
 mod status;
 mod texts;
 
+pub use compare_line::{Rows, Two};
 pub use fault::{SealFault, SecretFault};
 pub use laws::{law_receipt_opens, law_same_texts};
 pub use leaves::Section;

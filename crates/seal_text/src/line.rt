@@ -1,14 +1,15 @@
 //! The command line.
 ghost use Rattle.std.specs.Prelude.{◌≡◌, IfErr, IfOk, IfSome, None, Some, codes, map, true, false};
-ghost use Rattle.clap.specs.Words.{HasKind, app_of, fault_of, first_of, found_of, new_app, rows_of, rule_of, subcommand_of, subcommand_rows_of, with_subcommand};
+ghost use Rattle.clap.specs.Words.{HasKind, app_of, fault_of, first_of, found_of, rows_of, rule_of, subcommand_of, subcommand_rows_of};
 ghost use Rattle.clap.specs.declared.error.kind.ErrorKind.TheVariants.{MissingSubcommand};
 ghost use Rattle.program_shell.specs.Faults.{IsErrorOf};
-ghost use Rattle.seal_text.specs.Line.{GivesFiles, GivesRoots, IsOrdered, OrdersNothing, OrdersSeal, RefusesSeal, bare_app, checking_app, option_rule, seal_app, sealing_app, sealing_word};
+ghost use Rattle.seal_text.specs.Line.{GivesFiles, GivesRoots, IsOrdered, OrdersNothing, OrdersSeal, RefusesSeal, checking_app, option_rule, seal_app, sealed_app, sealing_app, sealing_word};
 
+use crate::compare_line::{Rows, Two, pair, pair_named, pairs, pairs_named};
 use crate::serve::Wanted;
 use clap::error::ErrorKind;
 use clap::{Arg, ArgMatches, Command};
-use program_shell::{LineFault, line_fault};
+use program_shell::{LineFault, described, line_fault, with_command, with_commands};
 use std::alloc::{AllocError, Global};
 use std::convert::AsStr;
 use version::VERSION;
@@ -18,7 +19,7 @@ const ROOT_HELP: &str =
     "Reads a docket on standard input: V, Q, P, R and W records, and no others. The sheet's file has M, U
 and F records, and no others. The secret's file has 64 hexadecimal digits, and maybe a line feed. The
 key's file has P,PROGRAMME,NAME and R,RESIDENT,NAME records, with the ID as a fourth field if there is
-one: then the sealed list of each member in the key ends with N,NAME or N,NAME,ID.
+one. With --key, the sealed list of each member in the key ends with a row N,NAME or N,NAME,ID.
 Writes lists,COUNT,ROOT, and with a sheet result,COUNT,ROOT.
 
 The sheet's rows are sealed as they are: whether it is the match's result the auditor's program tells.
@@ -50,7 +51,7 @@ reading or writing failed; 2 for a wrong command line.
 
 Example: residency-seal check --lists ROOT --result ROOT < receipt.csv";
 
-/// The files that are sealed beside the docket.
+/// The files, besides the docket, from which something is sealed.
 #[derive(Clone, Copy, Debug, PartialEq, Eq)]
 pub struct Sources<'a> {
     /// The secret's file.
@@ -73,14 +74,18 @@ pub struct Roots<'a> {
 /// What the words order.
 #[derive(Clone, Copy, Debug, PartialEq, Eq)]
 pub enum Order<'a> {
-    /// What is sealed: the roots of a docket, or the receipts of its members.
+    /// To seal a docket: to write its roots, or the receipts of its members.
     Seal(Wanted, Sources<'a>),
-    /// The check of a receipt.
+    /// To check a receipt.
     Check(Roots<'a>),
+    /// To compare a resident's receipt with a programme's.
+    Pair(Rows<'a>, Two<'a>),
+    /// To compare the receipts in a directory.
+    Pairs(Rows<'a>, &'a str),
 }
 
-// An option with a value.
-fn valued<'a>(
+/// The description of an option with a value.
+pub(crate) fn valued<'a>(
     alloc: Global,
     id: &'static str,
     value: &'static str,
@@ -97,21 +102,7 @@ fn valued<'a>(
         .required(needed)
 }
 
-// The description of a command: its name, its usage and its help.
-fn described<'a>(
-    alloc: Global,
-    name: &'a str,
-    call: &'a str,
-    about: &'a str,
-    help: &'a str,
-) -> Command<'a>
-    ensures { app_of result ≡ new_app name.entry.now }
-{
-    let command = Command::new(alloc, name).override_usage(call);
-    command.about(about).after_help(help)
-}
-
-// A command that seals, with its files.
+// The description of a command that seals, with its options for files.
 fn sealing<'a>(
     alloc: Global,
     name: &'a str,
@@ -130,7 +121,7 @@ fn sealing<'a>(
     command.arg(key)
 }
 
-// The command that checks a receipt, with its roots.
+// The description of the command that checks a receipt, with its options for roots.
 fn checking<'a>(alloc: Global) -> Result<Command<'a>, AllocError>
     ensures { IfOk result (λ command. app_of command ≡ checking_app) }
 {
@@ -143,32 +134,9 @@ fn checking<'a>(alloc: Global) -> Result<Command<'a>, AllocError>
     command.arg(valued(alloc, "result", "ROOT", help, false))
 }
 
-// The program without its commands.
-fn program<'a>(alloc: Global) -> Result<Command<'a>, AllocError>
-    ensures { IfOk result (λ command. app_of command ≡ bare_app) }
-{
-    let program = Command::new(alloc, "residency-seal").bin_name("residency-seal")?;
-    Ok(
-        program
-            .about("Seals a docket under a published root, and hands each member a receipt")
-            .version(VERSION)
-            .no_binary_name(true)
-            .subcommand_required(true),
-    )
-}
-
-// The program with one command more.
-fn with_command<'a>(program: Command<'a>, command: Command<'a>) -> Result<Command<'a>, AllocError>
-    requires { (app_of command).top.is_plain ≡ true }
-    ensures { IfOk result (λ both.
-        app_of both ≡ with_subcommand (app_of program.entry) (app_of command.entry).top) }
-{
-    program.subcommand(command)
-}
-
-// The program with its commands.
-fn commands<'a>(alloc: Global) -> Result<Command<'a>, AllocError>
-    ensures { IfOk result (λ command. app_of command ≡ seal_app) }
+// The description of the program with the commands that seal and check.
+fn sealed_commands<'a>(alloc: Global) -> Result<Command<'a>, AllocError>
+    ensures { IfOk result (λ command. app_of command ≡ sealed_app) }
 {
     let roots = sealing(
         alloc,
@@ -184,9 +152,20 @@ fn commands<'a>(alloc: Global) -> Result<Command<'a>, AllocError>
         "Writes the receipt of each member",
         RECEIPTS_HELP,
     )?;
-    let program = with_command(program(alloc)?, roots)?;
+    let about = "Seals a docket under a published root, and hands each member a receipt";
+    let program = with_commands(alloc, "residency-seal", about, VERSION)?;
+    let program = with_command(program, roots)?;
     let program = with_command(program, receipts)?;
     with_command(program, checking(alloc)?)
+}
+
+// The description of the program with all its commands.
+fn commands<'a>(alloc: Global) -> Result<Command<'a>, AllocError>
+    ensures { IfOk result (λ command. app_of command ≡ seal_app) }
+{
+    let program = sealed_commands(alloc)?;
+    let program = with_command(program, pair(alloc)?)?;
+    with_command(program, pairs(alloc)?)
 }
 
 // What the parser finds in the words, by these descriptions of commands.
@@ -202,7 +181,7 @@ fn matches_of<'a, S: AsStr>(
     commands.try_get_matches_from_mut(words)
 }
 
-// The files that a command names, if it names the secret's file.
+// The files that a command line names, if it names the secret's file.
 fn files_of<'a>(matches: &ArgMatches<'a>) -> Option<Sources<'a>>
     ensures files { IfSome result (GivesFiles (rows_of (found_of matches.now))) }
     ensures none { result ≡ None
@@ -218,7 +197,7 @@ fn files_of<'a>(matches: &ArgMatches<'a>) -> Option<Sources<'a>>
     }
 }
 
-// The roots that a command gives, if it gives the root of the lists.
+// The roots that a command line gives, if it gives the root of the lists.
 fn roots_of<'a>(matches: &ArgMatches<'a>) -> Option<Roots<'a>>
     ensures roots { IfSome result (GivesRoots (rows_of (found_of matches.now))) }
     ensures none { result ≡ None
@@ -233,7 +212,8 @@ fn roots_of<'a>(matches: &ArgMatches<'a>) -> Option<Roots<'a>>
     }
 }
 
-// The order to seal the files that a command names, if it names the secret's file.
+// The order to seal what is wanted of the files that a command line names, if it names the secret's
+// file.
 fn seal_named<'a>(wanted: Wanted, matches: &ArgMatches<'a>) -> Option<Order<'a>>
     ensures named { IfSome result (IsOrdered (Some
         (sealing_word wanted, rows_of (found_of matches.now)))) }
@@ -246,7 +226,7 @@ fn seal_named<'a>(wanted: Wanted, matches: &ArgMatches<'a>) -> Option<Order<'a>>
     }
 }
 
-// The order that these matches give, if they give one.
+// The order that the parsed words give, if they give one.
 fn order_named<'a>(matches: &ArgMatches<'a>) -> Option<Order<'a>>
     ensures named { IfSome result (IsOrdered (subcommand_rows_of matches.now)) }
     ensures none { result ≡ None → OrdersNothing (subcommand_rows_of matches.now) }
@@ -258,11 +238,19 @@ fn order_named<'a>(matches: &ArgMatches<'a>) -> Option<Order<'a>>
             Some(roots) => Some(Order::Check(roots)),
             None => None,
         },
+        Some(("pair", options)) => match pair_named(options) {
+            Some((rows, two)) => Some(Order::Pair(rows, two)),
+            None => None,
+        },
+        Some(("pairs", options)) => match pairs_named(options) {
+            Some((rows, directory)) => Some(Order::Pairs(rows, directory)),
+            None => None,
+        },
         _ => None,
     }
 }
 
-// What is told where no command is named.
+// The message for words that name no command.
 fn nothing_named(commands: &mut Command) -> LineFault
     ensures { IsErrorOf (λ kind. kind ≡ MissingSubcommand) result }
 {
@@ -272,7 +260,7 @@ fn nothing_named(commands: &mut Command) -> LineFault
     }
 }
 
-/// The order that the words give, the program's own name left out.
+/// The order that the words give. The words are those after the program's own name.
 pub(crate) fn read_line<'a, S: AsStr>(alloc: Global, words: &'a [S]) -> Result<Order<'a>, LineFault>
     ensures order { IfOk result (OrdersSeal (map S.text words.entry.now)) }
     ensures refused { IfErr result (RefusesSeal (map S.text words.entry.now)) }

@@ -1,4 +1,5 @@
-//! The program, over any streams: it seals a docket or checks a receipt, and its exit status tells how that ended.
+//! The program, over any streams: it seals a docket, checks a receipt or compares receipts, and its exit status tells how that
+//! ended.
 ghost use Rattle.std.specs.Prelude.{◌≡◌, ◌⊎◌, IfSome, None, Some, option_map};
 ghost use Rattle.std.specs.Process.{exit_status as exit_status_in};
 ghost use Rattle.program_shell.specs.Ends.{EndsServed};
@@ -6,6 +7,7 @@ ghost use Rattle.receipt_check.specs.Faults as faults;
 ghost use Rattle.seal_text.specs.Program.{AnswersCheck, AnswersSeal, EndsBadRoot, EndsChecked, EndsSeal, ServesSeal};
 ghost use Rattle.seal_text.specs.Status.{receipt_status_of, seal_status_of};
 
+use crate::compare::{compare_pair, compare_pairs};
 use crate::fault::SealFault;
 use crate::line::{Order, Roots, Sources, read_line};
 use crate::serve::{Wanted, serve};
@@ -22,7 +24,7 @@ use std::process::ExitCode;
 use std::random::RandomSource;
 use std::rt::Files;
 
-// The file at fault, if it is one.
+// The path of the file at fault, if a named file is at fault.
 fn file_of<'a>(files: &Sources<'a>, fault: &SealFault) -> Option<&'a str> {
     match fault {
         SealFault::Secret(_) => Some(files.secret),
@@ -37,7 +39,7 @@ fn file_of<'a>(files: &Sources<'a>, fault: &SealFault) -> Option<&'a str> {
     }
 }
 
-// Tells why nothing was sealed. No exit status depends on whether that text could be written.
+// Writes why nothing was sealed. No exit status depends on whether this text could be written.
 fn tell<T: Eprint>(told: &T, files: &Sources, fault: &SealFault) {
     let _ = match file_of(files, fault) {
         Some(file) => eprintln!(told; "residency: {file}: {fault}"),
@@ -45,7 +47,7 @@ fn tell<T: Eprint>(told: &T, files: &Sources, fault: &SealFault) {
     };
 }
 
-// Reads the files, and writes what is wanted of them.
+// Reads the files, and writes what is wanted: the roots, or the receipts.
 fn seal_files<R, W, T, H>(
     rt: &H,
     alloc: Global,
@@ -89,7 +91,7 @@ where
     ExitCode::from(seal_status(&answer))
 }
 
-// Tells that a word isn't a root.
+// Writes that the value of an option isn't a root, and gives the exit status.
 fn refuse_root<T: Eprint>(told: &T, word: &str) -> ExitCode
     ensures { exit_status_in result ≡ 2 }
 {
@@ -113,7 +115,7 @@ fn outcome_of(digits: Option<&str>) -> Option<Option<[u8; 32]>>
     }
 }
 
-// Reads a receipt, checks it against these roots, and tells what is wrong with it.
+// Reads a receipt, checks it against these roots, and writes what it shows, or what is wrong with it.
 fn check_input<R: Read, W: Write, T: Eprint, H: RandomSource>(
     rt: &H,
     alloc: Global,
@@ -160,12 +162,12 @@ fn check_roots<R: Read, W: Write, T: Eprint, H: RandomSource>(
     check_input(rt, alloc, &lists, outcome.as_ref(), reader, writer, told)
 }
 
-/// Seals a docket or checks a receipt, as the words order, and gives the exit status. It is 0 where all was written, and 4 for a
-/// receipt that is wrong. It is 1 where memory, reading or writing failed, 2 for a wrong command line, and 3 for a file at
-/// fault.
+/// Seals a docket, checks a receipt or compares receipts, as the words order, and gives the exit status. It is 0 if
+/// all was written, and 4 for a receipt that is wrong and for receipts that differ. It is 1 if memory, reading or
+/// writing failed, 2 for a wrong command line, and 3 for a file at fault.
 ///
-/// The words are those after the program's own name. What help and the version say goes to standard output, and why nothing
-/// was written to standard error.
+/// The words are those after the program's own name. Help and the version go to standard output. The reason why
+/// nothing was written goes to standard error.
 pub fn seal_words<R, W, T, H>(
     rt: &H,
     alloc: Global,
@@ -191,6 +193,10 @@ where
             seal_files(rt, alloc, wanted, &files, reader, writer, told)
         }
         Ok(Order::Check(roots)) => check_roots(rt, alloc, &roots, reader, writer, told),
+        Ok(Order::Pair(rows, two)) => compare_pair(rt, alloc, &rows, &two, writer, told),
+        Ok(Order::Pairs(rows, directory)) => {
+            compare_pairs(rt, alloc, &rows, directory, writer, told)
+        }
         Err(fault) => refuse(told, &UsageFault::Line(fault)),
     }
 }

@@ -11,8 +11,8 @@ use reasons_text::{Case, WhyFault};
 use std::alloc::Global;
 use std::random::RandomSource;
 
-/// The docket that two files say, each read as its own part, with its lists as they were written. A missing file counts as
-/// empty.
+/// The docket in the records of two files, each read as its own part, and its lists as they were written. A missing
+/// file counts as empty.
 pub(crate) fn read_lists<H: RandomSource>(
     rt: &H,
     alloc: Global,
@@ -31,7 +31,7 @@ pub(crate) fn read_lists<H: RandomSource>(
     }
 }
 
-/// The docket and the sheet that two files say, each read as its own part, and the programmes' lists.
+/// The docket and the sheet in the records of two files, each read as its own part, and the programmes' lists.
 pub(crate) fn read_case<H: RandomSource>(
     rt: &H,
     alloc: Global,

@@ -12,17 +12,17 @@ use docket::Docket;
 use match_model::{ProgrammeNo, ResidentNo};
 use std::alloc::{AllocError, Global};
 
-/// The trees of a docket: that of the lists and, after the match, that of the result.
+/// The trees of a docket: that of the lists, and after the match also that of the result.
 #[derive(Drop)]
 pub(crate) struct Trees {
-    /// The lists.
+    /// The tree of the lists.
     pub(crate) lists: Grown,
-    /// The result, if there is one.
+    /// The tree of the result, if there is one.
     pub(crate) outcome: Option<Grown>,
 }
 
 impl Trees {
-    // Adds what a receipt has of the result, if there is one.
+    // Adds what a receipt has of the result's tree, if there is one.
     fn put_outcome(
         &self,
         alloc: Global,
@@ -123,7 +123,7 @@ impl Trees {
         self.put_residents(alloc, text, secret, docket)
     }
 
-    /// Adds the rows of the roots.
+    /// Adds the rows of both trees' roots.
     pub(crate) fn put_roots(&self, alloc: Global, text: &mut Vec<u8>) -> Result<(), AllocError>
         ensures { (secret : List ℕ) → AreTrees secret (length self.now.lists.texts.items) self.now
             → OnOk result (Grows text.old text.new

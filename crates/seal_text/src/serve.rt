@@ -28,16 +28,16 @@ use std::alloc::{AllocError, Global};
 use std::io::Write;
 use std::random::RandomSource;
 
-/// What is wanted of a docket.
+/// What to write about a docket.
 #[derive(Clone, Copy, Debug, PartialEq, Eq)]
 pub enum Wanted {
-    /// The rows of its roots.
+    /// The rows of the trees' roots.
     Roots,
     /// The receipts of its members.
     Receipts,
 }
 
-// The tree of the result, if there is one.
+// The tree of the result over these texts, if there are any.
 fn grown_if(
     alloc: Global,
     secret: &[u8; 32],
@@ -57,7 +57,7 @@ fn grown_if(
     }
 }
 
-// Adds what is wanted of the trees of a docket.
+// Adds the roots or the receipts, as wanted, from the trees of a docket.
 fn put_wanted(
     alloc: Global,
     text: &mut Vec<u8>,
@@ -77,7 +77,7 @@ fn put_wanted(
     }
 }
 
-// What is wanted of the texts of the leaves.
+// The roots or the receipts, as wanted, from the texts of the leaves.
 fn text_of(
     alloc: Global,
     wanted: Wanted,
@@ -99,7 +99,7 @@ fn text_of(
     Ok(text)
 }
 
-// What is wanted of the docket and the sheet that are read, with these real names.
+// The roots or the receipts, as wanted, of a docket and its sheet, with these real names.
 fn text_of_case(
     alloc: Global,
     wanted: Wanted,
@@ -120,7 +120,7 @@ fn text_of_case(
     text_of(alloc, wanted, secret, case.docket(), lists, Some(outcome))
 }
 
-// What is wanted of the docket that is read, with these real names.
+// The roots or the receipts, as wanted, of a docket without a sheet, with these real names.
 fn text_of_docket(
     alloc: Global,
     wanted: Wanted,
@@ -159,7 +159,7 @@ fn names_of<H: RandomSource>(
     }
 }
 
-// What is wanted of a docket's bytes alone.
+// The roots or the receipts, as wanted, from the bytes of a docket without a sheet.
 fn early_text<H: RandomSource>(
     rt: &H,
     alloc: Global,
@@ -186,7 +186,7 @@ fn early_text<H: RandomSource>(
     }
 }
 
-// Whether what is wanted is told of the case: receipts are told of a stable sheet alone.
+// Whether what is wanted can be told of the case: roots always, and receipts only if the sheet is stable.
 fn is_told(alloc: Global, wanted: Wanted, case: &Case) -> Result<bool, AllocError>
     ensures { IfOk result (IsTold wanted case.now) }
 {
@@ -199,7 +199,8 @@ fn is_told(alloc: Global, wanted: Wanted, case: &Case) -> Result<bool, AllocErro
     }
 }
 
-// What is wanted of a case, with the real names in a key, if there is one. Receipts are told of a stable sheet alone.
+// The roots or the receipts, as wanted, of a case, with the real names in a key, if there is one. Receipts are made
+// only if the sheet is stable.
 fn text_told<H: RandomSource>(
     rt: &H,
     alloc: Global,
@@ -231,7 +232,7 @@ fn text_told<H: RandomSource>(
     }
 }
 
-// What is wanted of the bytes of a docket and its sheet.
+// The roots or the receipts, as wanted, from the bytes of a docket and of its sheet.
 fn full_text<H: RandomSource>(
     rt: &H,
     alloc: Global,
@@ -250,12 +251,12 @@ fn full_text<H: RandomSource>(
         Ok(read) => read,
         Err(fault) => return Err(SealFault::Files(fault)),
     };
-    // For the proof alone: the docket is whole.
+    // Only the proof needs this call: by its clause the docket is whole.
     let _inst = case.docket().instance();
     text_told(rt, alloc, wanted, &case, &given, key, secret)
 }
 
-// What is wanted of the bytes of a docket and, if there is one, its sheet.
+// The roots or the receipts, as wanted, from the bytes of a docket and, if there is one, of its sheet.
 fn text_from<H: RandomSource>(
     rt: &H,
     alloc: Global,
@@ -276,7 +277,7 @@ fn text_from<H: RandomSource>(
     }
 }
 
-/// Writes what is wanted.
+/// Writes the roots or the receipts, as wanted.
 pub(crate) fn serve<W: Write, H: RandomSource>(
     rt: &H,
     alloc: Global,
@@ -311,8 +312,9 @@ pub(crate) fn serve<W: Write, H: RandomSource>(
     }
 }
 
-/// Writes the root of a docket's lists, and with a sheet that of the result. With a key the list leaf of each member that the
-/// key names ends with the real name. Each file is read apart from the others. The secret is 64 hexadecimal digits. Nothing is written before a fault other than the writer's own.
+/// Writes the root of a docket's lists, and if there is a sheet, also that of the result. If there is a key, the list
+/// leaf of each member that it names ends with the real name. Each file is read apart from the others. The secret is
+/// 64 hexadecimal digits. If the fault is not the writer's, nothing was written.
 pub fn serve_seal<W: Write, H: RandomSource>(
     rt: &H,
     alloc: Global,
@@ -335,9 +337,9 @@ pub fn serve_seal<W: Write, H: RandomSource>(
     serve(rt, alloc, Wanted::Roots, docket, sheet, key, secret, writer)
 }
 
-/// Writes the receipt of each member, after a row that names the member. With a sheet a receipt has the result too, and with a
-/// key the real name of each member that the key names. Each file is read apart from the others. A sheet that isn't stable is a fault. Nothing is written before a fault other than the
-/// writer's own.
+/// Writes the receipt of each member, after a row that names the member. If there is a sheet, a receipt has the
+/// result, too, and if there is a key, the real name of each member that it names. Each file is read apart from the
+/// others. A sheet that isn't stable is a fault. If the fault is not the writer's, nothing was written.
 pub fn serve_receipts<W: Write, H: RandomSource>(
     rt: &H,
     alloc: Global,

@@ -1,27 +1,23 @@
 //! The texts of leaves: what is sealed of each member before the match, and after it.
 ghost use Rattle.std.specs.Prelude.{◌≡◌, ◌<◌, ◌++◌, ◌∷◌, [], ℕ, List, IfOk, IfSome, None, OnOk, Some, codes, length, map, nat_lt, option_copied, option_map, slice_index_or, true};
 ghost use Rattle.std.specs.List.{list_all, range_with_len};
-ghost use Rattle.docket.specs.Texts.{mark_row, programme_name, resident_name};
-ghost use Rattle.docket.specs.Whole.{IsSheetOf};
+ghost use Rattle.docket.specs.Texts.{filled_row, mark_row, programme_name, programme_row, resident_name};
 ghost use Rattle.csv.specs.Records.{fields_of, partial_of};
 ghost use Rattle.records.specs.Lines.{Grows};
 ghost use Rattle.match_model.specs.Draft.{Draft};
 ghost use Rattle.match_model.specs.Instance.{IsProgramme, IsResident, list_at};
-ghost use Rattle.match_model.specs.Placement.{holds, member_count, programme_of};
 ghost use Rattle.match_model.specs.Written.{written_of};
 ghost use Rattle.records.specs.RowText.{Adds};
 ghost use Rattle.std.specs.Io.KnownBytes.{Appends};
 ghost use Rattle.reasons_text.specs.Texts.{AppendsText};
 ghost use Rattle.seal_text.specs.Grown.{texts_of};
-ghost use Rattle.seal_text.specs.Texts.{AddsResidentResult, AreListsOf, AreResultTexts, Extends, HasSheet, IsResidentResult, NameMembers, PushesResults, line_if, list_record, member_rows, name_record, quota_row, withdrawal_if};
+ghost use Rattle.seal_text.specs.Texts.{AddsResidentResult, AreListsOf, AreResultTexts, Extends, HasSheet, IsResidentResult, NameMembers, PushesResults, line_if, list_record, name_record, quota_row, withdrawal_if};
 ghost use Rattle.seal_text.specs.Texts as spec;
 
 use crate::grow::put_row;
 use csv::ByteRecord;
-use docket::{
-    Docket, DocketFault, ProgrammeLists, RowWriter, WriteFailed, push_programme, room_for_rows,
-};
-use match_model::{Assignment, ProgrammeNo, ResidentNo, WrittenLists};
+use docket::{Docket, DocketFault, ProgrammeLists, RowWriter, WriteFailed, room_for_rows};
+use match_model::{ProgrammeNo, ResidentNo, WrittenLists};
 use reasons_text::{Case, RealNames, push_rows_on};
 use records::{field, put_line};
 use std::alloc::{AllocError, Global};
@@ -56,7 +52,7 @@ fn push_residents(
     requires list { list_all (λ r. nat_lt r (length docket.now.residents)) list.now ≡ true }
     ensures { OnOk result (Extends row.old row.new (map (resident_name docket.now) list.now)) }
 {
-    // For the proof alone: the docket is whole.
+    // Only the proof needs this call: by its clause the docket is whole.
     let _inst = docket.instance();
     for k in 0..list.len() {
         push_field(row, docket.resident_name(list[k]).as_bytes())?;
@@ -77,7 +73,7 @@ fn push_choices(
     ensures { OnOk result (Extends row.old row.new
         (map (programme_name docket.now) (list_at lists.now.resident_lists resident))) }
 {
-    // For the proof alone: the docket is whole.
+    // Only the proof needs this call: by its clause the docket is whole.
     let _inst = docket.instance();
     for k in 0..lists.listed_by_resident(resident) {
         let Some(programme) = lists.choice(resident, k) else {
@@ -99,7 +95,7 @@ fn push_all(row: &mut ByteRecord, fields: &ByteRecord) -> Result<(), AllocError>
     Ok(())
 }
 
-// Adds the row with a member's real name, if it is known.
+// Adds the `N` row with a member's real name, if the name is known.
 fn put_real(alloc: Global, text: &mut Vec<u8>, real: Option<&ByteRecord>) -> Result<(), AllocError>
     ensures { OnOk result (Grows text.old text.new
         (line_if (name_record (option_map (λ real. fields_of real.now) real.entry)))) }
@@ -139,7 +135,7 @@ fn put_ranking(
     }
 }
 
-// Adds the row that withdraws a member, if it is withdrawn.
+// Adds the `W` row, if the member is withdrawn.
 fn put_withdrawal_if(
     alloc: Global,
     text: &mut Vec<u8>,
@@ -279,65 +275,88 @@ pub(crate) fn lists_texts(
     Ok(texts)
 }
 
-// Whether a resident has the programme.
-fn has_programme(sheet: &Assignment, resident: ResidentNo, programme: ProgrammeNo) -> bool
-    requires { resident < length sheet.now }
-    ensures { result ≡ holds programme (programme_of sheet.now resident) }
-{
-    match sheet.get(resident) {
-        Some(own) => own == programme,
-        None => false,
-    }
-}
-
-// How many residents a programme has.
-fn filled_of(sheet: &Assignment, programme: ProgrammeNo) -> u32
-    ensures { result ≡ member_count sheet.now programme }
-{
-    let mut filled = 0u32;
-    for r in 0..sheet.len() {
-        if has_programme(sheet, ResidentNo(r), programme) {
-            filled += 1;
-        }
-    }
-    filled
-}
-
-// Adds the `M` rows of a programme's residents, in the docket's order.
-fn push_members<W: Write>(
-    rows: &mut RowWriter<'_, W>,
+// Adds a programme's `F` row.
+fn put_filled(
+    alloc: Global,
+    text: &mut Vec<u8>,
     docket: &Docket,
-    sheet: &Assignment,
     programme: ProgrammeNo,
-) -> Result<(), WriteFailed>
-    requires programme { IsProgramme docket.now.instance programme }
-    requires sheet { IsSheetOf docket.now sheet.now }
-    ensures { OnOk result (Adds W.contents rows.old rows.new
-        (member_rows docket.now sheet.now programme (length docket.now.instance.resident_lists))) }
+    filled: u32,
+) -> Result<(), AllocError>
+    requires { IsProgramme docket.now.instance programme }
+    ensures { OnOk result
+        (Grows text.old text.new (programme_row docket.now (codes "F") programme filled)) }
 {
+    let name = docket.programme_name(programme).as_bytes();
+    let (mut room, mut other) = (itoa::Buffer::new(), itoa::Buffer::new());
+    let filled = room.format(filled).as_bytes();
+    let quota = other.format(docket.instance().quota(programme)).as_bytes();
+    put_row(alloc, text, &[b"F", name, filled, quota])
+}
+
+// The `F` row of each programme, as a text of its own.
+fn filled_rows(alloc: Global, case: &Case) -> Result<Vec<Vec<u8>>, AllocError>
+    requires { HasSheet case.now }
+    ensures { IfOk result (λ texts. texts_of texts.items
+        ≡ map (filled_row case.now.docket case.now.sheet)
+        (range_with_len 0 (length case.now.docket.instance.quotas))) }
+{
+    let docket = case.docket();
+    let mut texts = Vec::new(alloc);
+    for p in 0..docket.instance().programmes() {
+        let programme = ProgrammeNo(p);
+        let mut text = Vec::new(alloc);
+        put_filled(alloc, &mut text, docket, programme, case.filled(programme))?;
+        texts.push(text)?;
+    }
+    Ok(texts)
+}
+
+// Adds a resident's `M` row to the text of the resident's programme.
+fn put_member(
+    alloc: Global,
+    text: &mut Vec<u8>,
+    docket: &Docket,
+    resident: ResidentNo,
+    programme: ProgrammeNo,
+) -> Result<(), AllocError>
+    requires resident { IsResident docket.now.instance resident }
+    requires programme { IsProgramme docket.now.instance programme }
+    ensures { OnOk result
+        (Grows text.old text.new (mark_row docket.now resident (Some programme))) }
+{
+    let name = docket.resident_name(resident).as_bytes();
+    put_row(
+        alloc,
+        text,
+        &[b"M", name, docket.programme_name(programme).as_bytes()],
+    )
+}
+
+// The texts of the programmes' result leaves: each one's `F` row, and the `M` rows of its residents in the docket's order.
+// One walk over the residents adds each one's row to the text of the resident's programme.
+fn programme_results(alloc: Global, case: &Case) -> Result<Vec<Vec<u8>>, AllocError>
+    requires { HasSheet case.now }
+    ensures { IfOk result (λ texts. texts_of texts.items
+        ≡ map (spec.programme_result case.now.docket case.now.sheet)
+        (range_with_len 0 (length case.now.docket.instance.quotas))) }
+{
+    let docket = case.docket();
+    let mut texts = filled_rows(alloc, case)?;
     for r in 0..docket.instance().residents() {
         let resident = ResidentNo(r);
-        if has_programme(sheet, resident, programme) {
-            push_mark(rows, docket, resident, Some(programme))?;
-        }
+        let Some(programme) = case.place_of(resident) else {
+            continue;
+        };
+        put_member(
+            alloc,
+            &mut texts[programme.0 as usize],
+            docket,
+            resident,
+            programme,
+        )?;
     }
-    Ok(())
-}
-
-// Adds the text of a programme's result leaf: its `F` row, and the `M` rows of its residents.
-fn push_programme_result<W: Write>(
-    rows: &mut RowWriter<'_, W>,
-    case: &Case,
-    programme: ProgrammeNo,
-) -> Result<(), WriteFailed>
-    requires case { HasSheet case.now }
-    requires programme { IsProgramme case.now.docket.instance programme }
-    ensures { OnOk result (Adds W.contents rows.old rows.new
-        (spec.programme_result case.now.docket case.now.sheet programme)) }
-{
-    let (docket, sheet) = (case.docket(), case.sheet());
-    push_programme(rows, docket, b"F", programme, filled_of(sheet, programme))?;
-    push_members(rows, docket, sheet, programme)
+    Ok(texts)
 }
 
 // Adds a resident's `M` or `U` row.
@@ -374,25 +393,6 @@ fn push_resident_result<W: Write>(
     push_rows_on(alloc, rows, case, resident)
 }
 
-// Writes the text of a programme's result leaf.
-fn write_programme_result<W: Write>(
-    alloc: Global,
-    writer: &mut W,
-    case: &Case,
-    programme: ProgrammeNo,
-) -> Result<(), DocketFault>
-    requires case { HasSheet case.now }
-    requires programme { IsProgramme case.now.docket.instance programme }
-    ensures { OnOk result (Appends (W.contents writer.old)
-        (W.contents writer.new) (spec.programme_result case.now.docket case.now.sheet programme)) }
-{
-    let mut room = room_for_rows(alloc)?;
-    let mut rows = RowWriter::new(writer, &mut room);
-    push_programme_result(&mut rows, case, programme)?;
-    rows.send()?;
-    Ok(())
-}
-
 // Writes the text of a resident's result leaf.
 fn write_resident_result<W: Write>(
     alloc: Global,
@@ -412,24 +412,6 @@ fn write_resident_result<W: Write>(
     Ok(())
 }
 
-// The text of a programme's result leaf.
-fn programme_result(
-    alloc: Global,
-    case: &Case,
-    programme: ProgrammeNo,
-) -> Result<Vec<u8>, AllocError>
-    requires case { HasSheet case.now }
-    requires programme { IsProgramme case.now.docket.instance programme }
-    ensures { IfOk result (λ text.
-        text.items ≡ spec.programme_result case.now.docket case.now.sheet programme) }
-{
-    let mut text = Vec::new(alloc);
-    match write_programme_result(alloc, &mut text, case, programme) {
-        Ok(()) => Ok(text),
-        Err(_) => Err(AllocError),
-    }
-}
-
 // The text of a resident's result leaf.
 fn resident_result(alloc: Global, case: &Case, resident: ResidentNo) -> Result<Vec<u8>, AllocError>
     requires case { HasSheet case.now }
@@ -441,24 +423,6 @@ fn resident_result(alloc: Global, case: &Case, resident: ResidentNo) -> Result<V
         Ok(()) => Ok(text),
         Err(_) => Err(AllocError),
     }
-}
-
-// Adds the texts of the programmes' result leaves.
-fn push_programme_results(
-    alloc: Global,
-    texts: &mut Vec<Vec<u8>>,
-    case: &Case,
-) -> Result<(), AllocError>
-    requires { HasSheet case.now }
-    ensures { OnOk result (texts_of texts.new.items
-        ≡ texts_of texts.old.items ++ map (spec.programme_result case.now.docket case.now.sheet)
-        (range_with_len 0 (length case.now.docket.instance.quotas))) }
-{
-    for p in 0..case.docket().instance().programmes() {
-        let text = programme_result(alloc, case, ProgrammeNo(p))?;
-        texts.push(text)?;
-    }
-    Ok(())
 }
 
 // Adds the texts of the residents' result leaves.
@@ -483,8 +447,7 @@ pub(crate) fn result_texts(alloc: Global, case: &Case) -> Result<Vec<Vec<u8>>, A
     requires { HasSheet case.now }
     ensures { IfOk result (λ texts. AreResultTexts case.now (texts_of texts.items)) }
 {
-    let mut texts = Vec::new(alloc);
-    push_programme_results(alloc, &mut texts, case)?;
+    let mut texts = programme_results(alloc, case)?;
     push_resident_results(alloc, &mut texts, case)?;
     Ok(texts)
 }

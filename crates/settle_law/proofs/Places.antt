@@ -42,7 +42,7 @@ place-get_or-le (y ∷ ys) (suc k) d l =
 pub IsListed-get_or : (xs : List ℕ) (k d : ℕ) → k < length xs → IsListed xs (get_or xs k d)
 IsListed-get_or xs k d l = let h = place-get_or-le xs k d l in omega arith
 
--- which numbers stand in a list to which one item is added in front
+-- an item is listed in a list that it was added to in front
 pub IsListed-cons_same : (y : ℕ) (ys : List ℕ) → IsListed (y ∷ ys) y
 IsListed-cons_same y ys = let e = place-head y ys in omega arith
 
@@ -66,7 +66,7 @@ place-append_other (y ∷ xs) ys x n = elim (place_cases y (xs ++ ys) x) [
   | inr d ↦ let h : length xs ≤ place (xs ++ ys) x = place-append_other xs ys x (λ l. n (IsListed-cons y xs x l)) in omega arith
 ]
 
--- when a list has no repeats: the empty list, and a list with one item in front
+-- a list without items has no repeats
 pub HasNoRepeats-nil : HasNoRepeats []
 HasNoRepeats-nil i j d l m = absurd (omega arith)
 
@@ -76,7 +76,7 @@ HasNoRepeats-cons y ys n h zero (suc j) d l m =
     λ e. n (subst (IsListed ys) (sym e) (IsListed-get_or ys j d (omega arith)))
 HasNoRepeats-cons y ys n h (suc i) (suc j) d l m = h i j d (omega arith) (omega arith)
 
--- which items a filter selects, and that it makes no repeats
+-- an item of a filtered list is on the list, and passes the test of the filter
 pub IsListed-filter : (f : ℕ → Bool) (xs : List ℕ) (x : ℕ) → IsListed (filter f xs) x → IsListed xs x × (f x ≡ true)
 IsListed-filter f [] x l = absurd (omega arith)
 IsListed-filter f (y ∷ ys) x l = go (f y) refl l (IsListed-filter f ys x)
@@ -108,7 +108,7 @@ HasNoRepeats-filter f (y ∷ ys) h = go (f y) (HasNoRepeats-filter f ys (no_repe
     go true m = HasNoRepeats-cons y (filter f ys) (λ l. no_repeats_head y ys h (IsListed-filter f ys y l).0) m
     go false m = m
 
--- which numbers stand in the list of n numbers from a on
+-- a number in the list of n numbers from a on is at least a and below a + n
 pub IsListed-range : (a n x : ℕ) → IsListed (range_with_len a n) x → (a ≤ x) × (x < a + n)
 IsListed-range a zero x l = absurd (omega arith)
 IsListed-range a (suc n) x l = elim (IsListed-cons_cases a (range_with_len (a + 1) n) x l) [

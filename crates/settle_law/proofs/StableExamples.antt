@@ -14,7 +14,7 @@ use Rattle.settle_law.proofs.Placements.{members_of, length-members_of, members_
 use Rattle.settle_law.proofs.AtClose.{all_listed, at_listed}
 use Rattle.settle_law.proofs.OneSettled.{one_settled}
 
--- an upper bound and a lower bound on the number of a programme's members
+-- if all members of a programme are on a list, there are at most as many members as items on the list
 members_within : (m : List (Option ℕ)) (p : ℕ) (xs : List ℕ) → ((r : ℕ) → IsMemberOf m r p → IsListed xs r) →
     member_count m p ≤ length xs
 members_within m p xs h =

@@ -12,7 +12,7 @@ use Rattle.exchange_core.specs.Legal.{IsLegal, IsClosed}
 use Rattle.exchange_core.specs.Left.{given}
 use Rattle.settle_law.specs.Stable.{IsStable, IsAchievable, IsSettled}
 
--- this answer of r does not reject a programme that is achievable for r
+-- if this answer of r is a rejection, the programme is not achievable for r
 abbrev pub SparesAchievable : Instance → ℕ → Answered → Type 0
 SparesAchievable inst r answer = IsTrue (is_rejection answer) → ¬ IsAchievable inst r answer.0
 

@@ -6,7 +6,8 @@ use Rattle.match_model.specs.Ranking.{IsBefore, HasNoRepeats}
 use Rattle.match_model.specs.Instance.{Instance, IsResident, Acceptable, quota, list_of_programme, list_of_resident}
 use Rattle.match_model.specs.Placement.{programme_of, IsMemberOf, member_count, IsAssignment}
 
--- the owner of this ranking prefers p: the owner has no programme, or p stands before the owner's programme
+-- the owner of this ranking would rather have p: the owner has no programme, or p stands before the owner's
+-- programme
 abbrev pub Prefers : List ℕ → ℕ → Option ℕ → Type 0
 Prefers ranking p None = Unit {0}
 Prefers ranking p (Some q) = IsBefore ranking p q
@@ -23,7 +24,7 @@ pub record Blocks (inst : Instance) (m : List (Option ℕ)) (r p : ℕ) : Type 0
   pub resident_would : Prefers (list_of_resident inst r) p (programme_of m r)
   pub programme_would : HasRoomFor inst m p r
 
--- an assignment without a blocking pair
+-- the placement is an assignment without a blocking pair
 pub record IsStable (inst : Instance) (m : List (Option ℕ)) : Type 0 where
   pub is_assignment : IsAssignment inst m
   pub nothing_blocks : (r p : ℕ) → ¬ Blocks inst m r p
@@ -34,7 +35,7 @@ pub record IsAchievable (inst : Instance) (r p : ℕ) : Type 0 where
   pub is_stable : IsStable inst matching
   pub has_both : IsMemberOf matching r p
 
--- s is achievable for p, and before r in p's list
+-- s is achievable for p, and stands before r in p's list
 pub record ComesFirst (inst : Instance) (p r s : ℕ) : Type 0 where
   pub before : IsBefore (list_of_programme inst p) s r
   pub achievable : IsAchievable inst s p
@@ -44,7 +45,7 @@ pub record IsBest (inst : Instance) (p r : ℕ) : Type 0 where
   pub achievable : IsAchievable inst r p
   pub no_quota_first : (first : List ℕ) → HasNoRepeats first → length first ≡ quota inst p → ¬ All (ComesFirst inst p r) first
 
--- the last programme of r's list that is achievable for r, or none if no programme is
+-- this is the last programme of r's list that is achievable for r; none if no programme is achievable for r
 abbrev pub IsWorst : Instance → ℕ → Option ℕ → Type 0
 IsWorst inst r None = (p : ℕ) → ¬ IsAchievable inst r p
 IsWorst inst r (Some p) =

@@ -1,5 +1,5 @@
-//! The placement that an exchange leads to. No achievable programme is rejected, and the placement of a closed exchange
-//! is settled.
+//! The placement that an exchange leads to: no resident owes a rejection of an achievable programme, and the
+//! placement of a closed exchange is settled.
 
 ghost use Rattle.settle_law.specs.SettledLaws.{NeverRejectsLaw, SettledLaw, SameResidentsLaw, OneSettledLaw, HasSettledLaw};
 
@@ -8,14 +8,14 @@ pub fn law_never_rejects()
     ensures { NeverRejectsLaw }
 {}
 
-/// A closed legal list of events leads to a stable and settled placement. Each programme has its best achievable
-/// residents, up to its quota. Each resident has the last-ranked of the resident's achievable programmes.
+/// A closed legal list of events leads to a stable and settled placement: each programme has its best achievable
+/// residents, up to its quota, and each resident has the last of the achievable programmes on the resident's list.
 pub fn law_settled()
     ensures { SettledLaw }
 {}
 
-/// Every stable assignment matches the same residents as a closed legal list of events, and the same number of
-/// residents at each programme.
+/// Every stable assignment matches the same residents as any closed legal list of events does, and gives each
+/// programme the same number of residents.
 pub fn law_same_residents()
     ensures { SameResidentsLaw }
 {}
@@ -25,7 +25,7 @@ pub fn law_one_settled()
     ensures { OneSettledLaw }
 {}
 
-/// Every instance has a settled assignment, and a settled assignment is stable.
+/// Every instance has a settled assignment that is stable.
 pub fn law_has_settled()
     ensures { HasSettledLaw }
 {}

@@ -1,4 +1,4 @@
-//! A gate that keeps workers waiting until all is done that needs none of their desks.
+//! A gate that keeps workers waiting until all is done that can be done without their desks.
 ghost use Rattle.std.specs.Prelude.{true, false};
 
 use exchange_core::Desk;
@@ -7,43 +7,43 @@ use std::sync::Wait;
 use std::sync::atomic::{AtomicBool, AtomicU64, Ordering};
 use std::time::Duration;
 
-/// How often a gate looks whether the others have done what they can. The gate looks once in a millisecond.
+/// How often a gate looks whether the other workers have done what they can; it looks once in a millisecond.
 const LOOKS: u32 = 10_000;
 
-/// How often a gate naps, so that the other workers sleep by then. A worker that finds nothing to do naps eight times
+/// How often a gate naps to let the other workers fall asleep. A worker that finds nothing to do naps eight times
 /// before it sleeps, and none of these naps is longer than the gate's.
 const NAPS: u32 = 50;
 
 /// The length of a gate's nap, in microseconds.
 const NAP: u64 = 4_000;
 
-/// How long a call of `pass` waits.
+/// What a call of `pass` waits for.
 #[derive(Clone, Copy, Debug)]
 pub enum Until {
-    /// Until so many events are entered.
+    /// Until this many events are entered.
     Entered(u64),
-    /// Until so many calls for residents' desks are made, this call too.
+    /// Until this many calls for residents' desks are made, with this one.
     Takes(u64),
 }
 
-/// Which calls of `pass` a gate keeps waiting, and for how long. The numbers follow from the market alone: so much is done
-/// without the desks that the gate keeps.
+/// Which calls of `pass` a gate keeps waiting, and for what. The numbers follow from the market alone: they say how
+/// much can be done without the desks that are kept.
 #[derive(Clone, Copy, Debug)]
 pub struct Holds {
-    /// After the first event its worker waits until so many events are entered.
+    /// After the first event, its worker waits until this many events are entered.
     pub begun: u64,
-    /// Every call for a resident's desk waits until so many events are entered.
+    /// Every call for a resident's desk waits until this many events are entered.
     pub offers: u64,
-    /// The first call for this desk waits until so many events are entered, and then until the other workers sleep.
+    /// The first call for this desk waits until this many events are entered, and then until the other workers sleep.
     pub first: (Desk, u64),
-    /// The first call for another desk waits until so many events are entered.
+    /// The first call for another desk waits until this many events are entered.
     pub other: Option<(Desk, u64)>,
-    /// How many calls for residents' desks wait after the call for the first desk went on, and for how long.
+    /// How many calls for residents' desks wait after the call for the first desk went on, and what they wait for.
     pub next: (u64, Until),
 }
 
-/// A gate that keeps calls of `pass` waiting until the others have done what they can. If they don't, the gate gives up
-/// after a long time, and keeps no call waiting any more.
+/// A gate that keeps calls of `pass` waiting until the other workers have done what they can. If they don't do it in
+/// a long time, the gate gives up and keeps no call waiting any more.
 #[derive(Drop)]
 pub struct UntilDone<R: Wait + Copy> {
     rt: R,
@@ -77,7 +77,7 @@ impl<R: Wait + Copy> UntilDone<R> {
         }
     }
 
-    /// Whether each call that was to wait has waited, and the others have done what they can meanwhile.
+    /// Whether each call that had to wait has waited, and the other workers did what they could meanwhile.
     pub fn has_held_all(&self) -> bool {
         let others = self.holds.other.is_some() as u64;
         self.is_armed.load(Ordering::SeqCst)
@@ -97,7 +97,7 @@ impl<R: Wait + Copy> UntilDone<R> {
         }
     }
 
-    // Waits until so much is done. Returns whether it is.
+    // Waits until this many events are entered, or calls for takes made. Returns false if it gave up waiting.
     fn wait(&self, until: Until) -> bool {
         for _ in 0..LOOKS {
             if self.is_done(until) {
@@ -112,7 +112,8 @@ impl<R: Wait + Copy> UntilDone<R> {
         false
     }
 
-    // Keeps the first call for the first desk waiting.
+    // Keeps the first call for the first desk waiting: until this many events are entered, and then until the others
+    // sleep.
     fn settle(&self, events: u64) {
         if self.wait(Until::Entered(events)) {
             for _ in 0..NAPS {
@@ -129,14 +130,14 @@ impl<R: Wait + Copy> UntilDone<R> {
         }
     }
 
-    // Whether this is the first call for the other desk, and until how many events are entered it waits.
+    // The number of events until which the first call for the other desk waits, if this is that call; else none.
     fn as_other(&self, desk: Desk) -> Option<u64> {
         let (other, events) = self.holds.other?;
         let is_first = desk == other && !self.has_begun_other.swap(true, Ordering::SeqCst);
         is_first.then_some(events)
     }
 
-    // Whether this call for a resident's desk is one of the next ones that wait.
+    // Whether this call for a resident's desk is one of those that wait after the first desk's call went on.
     fn is_next(&self) -> bool {
         self.is_armed.load(Ordering::SeqCst)
             && self.held.fetch_add(1, Ordering::SeqCst) < self.holds.next.0

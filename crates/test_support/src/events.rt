@@ -76,8 +76,8 @@ pub fn nine_events() -> [Event; 9] {
     ]
 }
 
-/// The events of an exchange in which `X` leaves `A`, a programme with two places, for `B`. `Y` takes an offer before
-/// `X`, although `X` was sent an offer first.
+/// The events of an exchange in which X leaves A, a programme with two places, for B. Y takes an offer before X does,
+/// although X was sent one first.
 pub fn nineteen_events() -> [Event; 19] {
     [
         offer(A, X),
@@ -102,7 +102,7 @@ pub fn nineteen_events() -> [Event; 19] {
     ]
 }
 
-/// The desk that an event belongs to, or none for the close.
+/// The desk whose worker makes an event, or none for the close.
 pub fn desk_of(event: &Event) -> Option<Desk> {
     match event {
         Event::Take { resident, .. } | Event::Answer { resident, .. } => {

@@ -2,14 +2,14 @@
 use match_model::{Assignment, Instance, InstanceBuilder, ModelFault, ProgrammeNo, ResidentNo};
 use std::alloc::Global;
 
-/// The quotas and lists of the programmes, followed by the lists of the residents. Members are numbers.
+/// The quotas and lists of the programmes, and then the lists of the residents, with members as numbers.
 pub type Members<'a> = (&'a [(u32, &'a [u32])], &'a [&'a [u32]]);
 
 /// Two programmes and two residents. The residents rank the programmes in the opposite order to the programmes' own
 /// rankings.
 pub const TWO_BY_TWO: Members = (&[(1, &[0, 1]), (1, &[1, 0])], &[&[1, 0], &[0, 1]]);
 
-/// A programme with two places that all residents rank, and a second programme that draws a resident away from it.
+/// A programme with two places that all residents rank, and a second programme that takes a resident away from it.
 pub const TWO_PLACES: Members = (&[(2, &[0, 1, 2]), (1, &[0])], &[&[1, 0], &[0], &[0]]);
 
 fn residents(alloc: Global, numbers: &[u32]) -> Result<Vec<ResidentNo>, ModelFault> {
@@ -59,7 +59,7 @@ pub fn made(alloc: Global, members: Members) -> Result<Instance, ModelFault> {
     builder.finish().map_err(|refused| refused.fault)
 }
 
-/// Whether a sheet matches each resident with the programme of this number, or with none.
+/// Whether a sheet matches each resident with the programme that has this number, or with none.
 pub fn has_places(sheet: &Assignment, places: &[Option<u32>]) -> bool {
     for (r, place) in (0..sheet.len()).zip(places) {
         if r < sheet.len() && sheet.get(ResidentNo(r)) != place.map(|p| ProgrammeNo(p)) {

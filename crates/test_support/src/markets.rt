@@ -79,8 +79,8 @@ pub fn made_pairs(alloc: Global, pairs: u32) -> Result<Instance, ModelFault> {
     builder.finish().map_err(|refused| refused.fault)
 }
 
-/// A chain. The last programme displaces the first resident, whose programme then offers to the second resident and
-/// displaces that one, and so on.
+/// A chain: the last programme displaces the first resident, whose programme then offers to the second resident and
+/// displaces that one from its programme, and so on.
 pub fn made_chain(alloc: Global, links: u32) -> Result<Instance, ModelFault> {
     let mut builder = InstanceBuilder::new(alloc);
     add_ones(&mut builder, links, links.saturating_add(1))?;

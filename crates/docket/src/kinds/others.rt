@@ -68,7 +68,7 @@ pub(crate) fn capacity_row(
     Ok((capacity, workers))
 }
 
-/// The fault of `V,2`, a record that is known only as the first record.
+/// The fault of a `V` record, or none. The kind `V` is allowed only in the first record.
 pub(crate) fn version_fault_of(row: &ByteRecord, place: u32) -> Option<DocketFault>
     ensures { result ≡ version_fault place (fields_of row.now) }
 {

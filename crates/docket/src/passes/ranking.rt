@@ -27,7 +27,7 @@ use docket_names::Members;
 use match_model::{Instance, InstanceBuilder, ProgrammeNo, ResidentNo, WrittenLists};
 use std::alloc::{AllocError, Global};
 
-// Reads the residents with these names.
+// Fills `listed` with the residents whose names have these numbers.
 fn listed_residents(
     place: u32,
     names: &[u32],
@@ -48,7 +48,7 @@ fn listed_residents(
     Ok(())
 }
 
-// Reads the programmes with these names.
+// Fills `listed` with the programmes whose names have these numbers.
 fn listed_programmes(
     place: u32,
     names: &[u32],
@@ -218,7 +218,7 @@ fn withdraw_resident(
     }
 }
 
-// Gives the builder what row `j` of the store says.
+// Gives the builder the list or the withdrawal in row `j` of the store.
 fn rank_row(
     alloc: Global,
     lists: &Lists,
@@ -299,7 +299,7 @@ fn rank(
     Ok(())
 }
 
-// The instance that the builder makes after so many records, and the lists if `keeps_lists` is set.
+// The instance that the builder makes after this many records, and the lists if `keeps_lists` is set.
 fn finished(
     builder: InstanceBuilder,
     records: u32,
@@ -321,7 +321,7 @@ fn finished(
     }
 }
 
-// The programmes before any list is given, if lists are kept; else no programme.
+// Where the programmes' lists will be kept: a place for each programme if lists are kept, else none.
 fn no_lists(
     alloc: Global,
     programmes: &Members,
@@ -333,8 +333,8 @@ fn no_lists(
     ProgrammeLists::none(alloc, if keeps_lists { programmes.len() } else { 0 })
 }
 
-/// The instance that the builder makes from the lists and withdrawals of so many records, and the lists if `keeps_lists`
-/// is set.
+/// The instance that the builder makes from the lists and withdrawals of this many records, and the lists if
+/// `keeps_lists` is set.
 pub(crate) fn instance_of(
     alloc: Global,
     records: u32,

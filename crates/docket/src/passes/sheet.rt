@@ -36,7 +36,7 @@ fn all_set(flags: &[bool]) -> bool
     flags.iter().all(|flag| *flag)
 }
 
-// The member whose name is this text.
+// The member whose name is the text with this number.
 fn known(members: &Members, text: u32, place: u32) -> Result<u32, DocketFault>
     ensures member { IfOk result (λ member. position (nat_eq text) members.now ≡ Some member) }
     ensures below { IfOk result (λ member. member < length members.now) }
@@ -147,7 +147,8 @@ impl Marks {
         Ok(())
     }
 
-    // Enters a row `F,programme,filled,quota` into the marks. The numbers are not needed here.
+    // Enters a row `F,programme,filled,quota` into the marks. The row's two numbers are tested in the
+    // third walk.
     fn add_filled(
         &mut self,
         programmes: &Members,
@@ -283,7 +284,7 @@ impl Marks {
     }
 }
 
-/// The sheet of a docket that has a sheet, from so many records.
+/// The sheet of a docket that has one, from the rows that were kept of this many records.
 pub(crate) fn sheet_of(
     alloc: Global,
     records: u32,

@@ -67,7 +67,8 @@ impl Model for Lists {
     ghost invariant = { λ a. ArePartsOf a.names.items a.rows.items };
 }
 
-// The count of new names, after the number of texts became `after`. Once there are too many new names, the count stays.
+// The count of new names, after the number of texts grew from `before` to `after`. Once there are too many new names,
+// the count stays.
 #[inline(always)]
 fn counted(brought: usize, before: usize, after: usize) -> usize
     requires within { before ≤ after }
@@ -168,7 +169,7 @@ fn add_names(
     Ok(true)
 }
 
-// Adds a row whose names begin at `start` and end at `end` in the long sequence.
+// Adds a row whose listed names stand from `start` up to `end` in the long sequence.
 fn push_row(
     rows: &mut Vec<KeptRow>,
     place: u32,
@@ -204,7 +205,7 @@ fn push_row(
 }
 
 impl Lists {
-    /// An object without rows.
+    /// A store without rows.
     pub(crate) fn new(alloc: Global) -> Lists
         ensures { (texts : Fields) → AreLists texts result [] }
     {

@@ -68,7 +68,7 @@ impl SheetRows {
         self.rows.as_slice()
     }
 
-    /// Whether more rows are kept than there can be members. Then no further row is kept.
+    /// Whether more rows are kept than there can be members, so that no further row is kept.
     pub(crate) fn is_cut(&self) -> bool
         ensures { result ≡ nat_lt MOST_NAMES (length self.now) }
     {

@@ -1,4 +1,4 @@
-//! One exchange on one thread, through ruled mailboxes, ledger and agents.
+//! One exchange on one thread, through mailboxes with their rule, a ledger and agents.
 mod desks;
 
 ghost use Rattle.std.specs.Prelude.{◌≡◌, ℕ, ◌<◌, [], slice_get, Some, IfOk};
@@ -210,7 +210,7 @@ fn hears(alloc: Global, journal: &[Event], by: ProgrammeNo) -> Result<Vec<Answer
     Ok(notes)
 }
 
-/// Whether each resident's log has exactly the takes that the journal has for the resident.
+/// Whether each resident's log has exactly the resident's takes in the journal.
 fn have_taken<J: ExchangeIdentity, T: TakeEnd<OfferNote> + Drop>(
     alloc: Global,
     journal: &[Event],
@@ -225,7 +225,7 @@ fn have_taken<J: ExchangeIdentity, T: TakeEnd<OfferNote> + Drop>(
     Ok(true)
 }
 
-/// Whether each programme's log has exactly the hears that the journal has for the programme.
+/// Whether each programme's log has exactly the programme's hears in the journal.
 fn have_heard<J: ExchangeIdentity, U: TakeEnd<AnswerNote> + Drop>(
     alloc: Global,
     journal: &[Event],
@@ -240,8 +240,8 @@ fn have_heard<J: ExchangeIdentity, U: TakeEnd<AnswerNote> + Drop>(
     Ok(true)
 }
 
-/// Serves each programme's desk and then each resident's desk, again and again until nothing is left to do, and then
-/// closes the exchange.
+/// Serves each programme's desk and then each resident's desk, again and again until there is nothing left to do, and
+/// then closes the exchange.
 fn serve_to_close<
     J: ExchangeIdentity,
     P: PutEnd<OfferNote>,
@@ -272,7 +272,7 @@ fn serve_to_close<
     ledger.close(inst, tally)
 }
 
-/// How many events an exchange has from its beginning to its close. None if some desk's log differs from the journal.
+/// How many events an exchange has up to its close. None if some desk's log differs from the journal.
 fn exchange<J: ExchangeIdentity, R: Wait + Copy>(
     rt: R,
     alloc: Global,

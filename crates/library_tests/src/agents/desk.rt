@@ -9,7 +9,7 @@ use match_agents::{Heard, ProgrammeAgent, ResidentAgent};
 use match_model::{Instance, ProgrammeNo, ResidentNo};
 use std::alloc::Global;
 
-/// A resident's agent with the instance.
+/// A resident's agent together with the instance.
 #[derive(Drop)]
 pub(super) struct ResidentRun<T: TakeEnd<OfferNote>> {
     inst: Instance,
@@ -18,7 +18,7 @@ pub(super) struct ResidentRun<T: TakeEnd<OfferNote>> {
 }
 
 impl<T: TakeEnd<OfferNote> + Drop> ResidentRun<T> {
-    /// Opens the agent of a resident. The result is none if the resident is no member, or if memory is refused.
+    /// Opens the agent of a resident. The result is none if the resident is no member, or if there is no memory.
     pub(super) fn open(
         alloc: Global,
         inst: Instance,
@@ -65,7 +65,7 @@ impl<T: TakeEnd<OfferNote> + Drop> ResidentRun<T> {
     }
 }
 
-/// A programme's agent with the instance.
+/// A programme's agent together with the instance.
 #[derive(Drop)]
 pub(super) struct ProgrammeRun<T: TakeEnd<AnswerNote>> {
     inst: Instance,
@@ -74,7 +74,8 @@ pub(super) struct ProgrammeRun<T: TakeEnd<AnswerNote>> {
 }
 
 impl<T: TakeEnd<AnswerNote> + Drop> ProgrammeRun<T> {
-    /// Opens the agent of a programme. The result is none if the programme is no member, or if memory is refused.
+    /// Opens the agent of a programme. The result is none if the programme is no member, or if there is no
+    /// memory.
     pub(super) fn open(
         alloc: Global,
         inst: Instance,
@@ -90,7 +91,7 @@ impl<T: TakeEnd<AnswerNote> + Drop> ProgrammeRun<T> {
         Some(ProgrammeRun { inst, agent })
     }
 
-    /// Makes an offer to the resident to whom the programme offers next, if there is such a resident.
+    /// Makes an offer to the resident to whom the programme offers next, if there is one.
     pub(super) fn offer(&mut self) -> Option<ResidentNo> {
         let wish = self.agent.wish(&self.inst)?;
         self.agent.offered(&self.inst);

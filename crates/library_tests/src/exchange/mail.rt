@@ -26,14 +26,14 @@ const BOTH: MailLeft = MailLeft {
     sender_has_more: true,
 };
 
-// What each of the nineteen events leaves in the mailboxes. An offer or an answer finds its receiver's mailbox empty or
-// not. A hear by programme a leaves in the mailbox the answers that came later.
+// What each of the nineteen events leaves in the mailboxes. An offer or an answer finds its receiver's mailbox empty
+// or not. A hear by the programme A leaves the later answers in the mailbox.
 const AFTER_NINETEEN: [MailLeft; 19] = [
     WAS_EMPTY, WAS_EMPTY, NOTHING, NOTHING, WAS_EMPTY, NOTHING, WAS_EMPTY, NOTHING, WAS_EMPTY,
     NOTHING, MORE, MORE, NOTHING, NOTHING, WAS_EMPTY, NOTHING, WAS_EMPTY, NOTHING, NOTHING,
 ];
 
-// Whether the core reports what is expected after each event.
+// Whether the core reports what is expected of the mailboxes after each event.
 fn tells_each(run: &mut Run, events: &[Event], wanted: &[MailLeft]) -> bool {
     for (event, mail) in events.iter().zip(wanted) {
         if run.step_and_tell(*event) != Ok(*mail) {
@@ -43,8 +43,8 @@ fn tells_each(run: &mut Run, events: &[Event], wanted: &[MailLeft]) -> bool {
     true
 }
 
-// Whether a new core reports what is expected after each of these events, and then refuses for this cause that y takes
-// an offer of b.
+// Whether a new core reports what is expected of the mailboxes after each of these events, and then refuses, for this
+// cause, that Y takes an offer of B.
 fn tells_all(alloc: Global, events: &[Event], wanted: &[MailLeft], why: Refused) -> bool {
     match begin(alloc, TWO_PLACES, Capacity::Full) {
         Ok(mut run) => {

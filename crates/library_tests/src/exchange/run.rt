@@ -14,8 +14,8 @@ pub(crate) struct Run {
     ghost core_of: { IsCoreOf inst core },
 }
 
-/// What the core shows: what is still pending, to whom a programme offers next, what a resident holds, and which answer
-/// the resident owes first.
+/// What the core shows: what is pending first, to whom a programme offers next, whose offer a resident holds, and
+/// which answer the resident owes first.
 pub(super) type Seen = (
     Option<Pending>,
     Option<ResidentNo>,

@@ -19,12 +19,12 @@ enum Mail {
 /// What an item of one of these six lists says: the other member, and the kind of an answer.
 type Letter = (u32, Option<AnswerKind>);
 
-/// This item if the two numbers are equal, else none.
+/// This item if the two numbers are equal, or none.
 fn where_same(a: u32, b: u32, letter: Letter) -> Option<Letter> {
     if a == b { Some(letter) } else { None }
 }
 
-/// The item that an event adds to a desk's list of this kind, if the event adds an item.
+/// The item that an event adds to this list of a desk, or none.
 fn letter(mail: Mail, desk: u32, event: &Event) -> Option<Letter> {
     match event {
         Event::Offer {
@@ -81,14 +81,14 @@ fn hear_letter(mail: Mail, desk: u32, ends: (u32, u32), kind: AnswerKind) -> Opt
     }
 }
 
-/// How many items a desk's list of this kind has.
+/// How many items this list of a desk has.
 fn count(mail: Mail, desk: u32, j: &[Event]) -> usize {
     j.iter()
         .filter(|event| letter(mail, desk, event).is_some())
         .count()
 }
 
-/// The item at index `place` in a desk's list of this kind.
+/// The item at index `place` in this list of a desk.
 fn item(mail: Mail, desk: u32, j: &[Event], place: usize) -> Option<Letter> {
     let mut left = place;
     for event in j {
@@ -107,8 +107,8 @@ fn place(ranking: &[ProgrammeNo], p: u32) -> usize {
     found.unwrap_or(ranking.len())
 }
 
-/// The place on the ranking of the best programme whose offer the resident took. The result is the ranking's length if
-/// the resident took no offer.
+/// Where the best programme whose offer the resident took stands on the ranking. If the resident took no offer, the
+/// result is the ranking's length.
 fn best_place(ranking: &[ProgrammeNo], r: ResidentNo, j: &[Event]) -> usize {
     let mut best = ranking.len();
     for event in j {
@@ -119,7 +119,7 @@ fn best_place(ranking: &[ProgrammeNo], r: ResidentNo, j: &[Event]) -> usize {
     best
 }
 
-/// The answers that are due for an offer that the resident takes after these events.
+/// The answers that an offer by this programme calls for, if the resident takes it after these events.
 fn calls(ranking: &[ProgrammeNo], r: ResidentNo, earlier: &[Event], p: u32) -> [Option<Letter>; 2] {
     let before = best_place(ranking, r, earlier);
     if place(ranking, p) >= before {
@@ -212,7 +212,7 @@ pub(super) fn refusal(
     }
 }
 
-/// Whether the core and the slow definitions gave the same answer.
+/// Whether the core's answer is that of the slow definitions.
 pub(super) fn is_same(told: Result<(), Refused>, slow: Option<Refused>) -> bool {
     match slow {
         Some(why) => told == Err(why),
@@ -250,7 +250,7 @@ fn offer(
     None
 }
 
-/// Why the wanted item isn't the one in front, if it isn't.
+/// Why the wanted item isn't the one in front, or none if it is.
 fn front_fault(front: Option<Letter>, wanted: Letter) -> Option<Refused> {
     match front {
         None => Some(Refused::NothingWaiting),

@@ -11,14 +11,14 @@ const PROGRAMMES: u32 = 3;
 
 const RESIDENTS: u32 = 5;
 
-/// Random numbers. Each number is made from the number before by shifts and exclusive ors.
+/// Random numbers, each of which is made from the one before by shifts and exclusive ors.
 #[derive(Drop)]
 struct Numbers {
     last: u32,
 }
 
 impl Numbers {
-    /// The next number below a bound that isn't 0.
+    /// The next random number, below this bound.
     fn below(&mut self, bound: u32) -> u32
         requires { 0 < bound }
         ensures { result < bound }
@@ -62,7 +62,7 @@ fn some_programmes(numbers: &mut Numbers, alloc: Global) -> Result<Vec<Programme
     Ok(programmes)
 }
 
-/// A random instance with quotas up to 3, and with lists that have most members of the other side.
+/// A random instance with quotas up to 3. Each list has most members of the other side.
 fn random_instance(numbers: &mut Numbers, alloc: Global) -> Result<Instance, ModelFault> {
     let mut builder = InstanceBuilder::new(alloc);
     for _ in 0..PROGRAMMES {
@@ -82,7 +82,7 @@ fn random_instance(numbers: &mut Numbers, alloc: Global) -> Result<Instance, Mod
     builder.finish().map_err(|refused| refused.fault)
 }
 
-/// A random event. Mostly both members of the event exist, and seldom one of the two doesn't.
+/// A random event. Seldom one of its two members doesn't exist.
 fn random_event(numbers: &mut Numbers) -> Event {
     let programme = ProgrammeNo(numbers.below(PROGRAMMES + 1).min(numbers.below(30)));
     let resident = ResidentNo(numbers.below(RESIDENTS));
@@ -114,7 +114,7 @@ fn random_event(numbers: &mut Numbers) -> Event {
     }
 }
 
-/// A random event, or in one of three cases an event that may follow.
+/// A random event; in about one of three cases one that may follow.
 fn next_event(numbers: &mut Numbers, run: &Run) -> Event {
     if numbers.below(3) > 0 {
         return random_event(numbers);
@@ -122,8 +122,8 @@ fn next_event(numbers: &mut Numbers, run: &Run) -> Event {
     run.some_enabled().unwrap_or(Event::Close)
 }
 
-/// Whether the core and the slow definitions agree on an event. If the event may follow, it is entered and added to the
-/// list.
+/// Whether the core and the slow definitions agree about an event. If the event may follow, it is entered and added
+/// to the list.
 fn agrees_once(run: &mut Run, cap: Capacity, list: &mut Vec<Event>, event: Event) -> bool {
     let again = event;
     let more = event;
@@ -140,7 +140,7 @@ fn agrees_once(run: &mut Run, cap: Capacity, list: &mut Vec<Event>, event: Event
     true
 }
 
-/// Whether the core and the slow definitions agree on each of `turns` events that are tried.
+/// Whether the core and the slow definitions agree about each of `turns` events that are tried one after another.
 fn agrees_along(
     numbers: &mut Numbers,
     alloc: Global,
@@ -158,7 +158,7 @@ fn agrees_along(
     true
 }
 
-/// Whether the core and the slow definitions agree on each of `turns` events that are tried on a random instance.
+/// Whether the core and the slow definitions agree about each of `turns` events that are tried on a random instance.
 pub(super) fn agrees(alloc: Global, seed: u32, cap: Capacity, turns: u32) -> bool {
     let mut numbers = Numbers { last: seed };
     let Ok(inst) = random_instance(&mut numbers, alloc) else {

@@ -98,7 +98,7 @@ Q,a,1 \u{feff}Q,b,1 = record 2: unknown kind of row
 \u{feff}Z = record 1: unknown kind of row
 \u{feff} = read";
 
-// Bytes that are not text, and how reading them ends.
+// Bytes that are not text, each with the outcome of reading them.
 const BYTES: [(&[u8], &str); 5] = [
     (b"Q,\xff,1\n", "record 1: bad name"),
     (b"Q,\x80,1\n", "record 1: bad name"),
@@ -119,7 +119,7 @@ fn fields_that_are_no_names(rt: HostRuntime) -> Result<(), Fail> {
     Ok(())
 }
 
-// The bytes of `SMALL` after which a reader fails, and the number of the unfinished record.
+// Numbers of bytes of `SMALL` after which a reader fails, each with the number of the unfinished record.
 const CUTS: [(usize, u32); 9] = [
     (0, 1),
     (5, 1),

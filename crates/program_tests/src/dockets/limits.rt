@@ -13,14 +13,15 @@ use std::test::Fail;
 // The end of the record of a resident who ranks all ten programmes, the last programme first.
 const TEN: &str = ",p9,p8,p7,p6,p5,p4,p3,p2,p1,p0\n";
 
-// A docket of records with rising numbers.
+// The text of `count` records, which are alike but for a rising number.
 fn numbered(alloc: Global, start: &str, count: u32, end: &str) -> Result<String, AllocError> {
     let mut text = String::new(alloc);
     push_all(&mut text, alloc, start, count, end)?;
     Ok(text)
 }
 
-// A docket of ten programmes and 20,000 residents who all rank each other. `last` has the records of the last resident.
+// A docket of ten programmes and 20,000 residents who all rank each other. The records of the last resident are in
+// `last`.
 fn ranked(alloc: Global, last: &str) -> Result<String, AllocError> {
     let mut text = numbered(alloc, "Q,p", 10, ",1\n")?;
     push_lists(&mut text, alloc)?;
@@ -29,7 +30,7 @@ fn ranked(alloc: Global, last: &str) -> Result<String, AllocError> {
     Ok(text)
 }
 
-// A capacity followed by closes, in this number of records.
+// The row of a capacity followed by closes: this many records in all.
 fn closes(alloc: Global, records: u32) -> Result<String, AllocError> {
     let mut text = String::new(alloc);
     text.push_str("C,full\n")?;
@@ -39,7 +40,7 @@ fn closes(alloc: Global, records: u32) -> Result<String, AllocError> {
     Ok(text)
 }
 
-// A docket with the greatest number of programmes, and one more record.
+// A docket with the greatest number of programmes, and with the records in `last`.
 fn most_programmes_and(alloc: Global, last: &str) -> Result<String, AllocError> {
     let mut text = numbered(alloc, "Q,p", 2_000, ",10000\n")?;
     text.push_str(last)?;
@@ -72,7 +73,7 @@ fn residents(rt: HostRuntime) -> Result<(), Fail> {
     Ok(())
 }
 
-// How many pairs are acceptable in a docket.
+// How many pairs are acceptable in the docket with this text; none if it is no docket.
 fn pairs(alloc: Global, input: &str) -> Option<u32> {
     match read(alloc, input) {
         Ok(docket) => Some(docket.instance().pairs()),
@@ -125,7 +126,7 @@ fn one_record_too_many(rt: HostRuntime) -> Result<(), Fail> {
     Ok(())
 }
 
-// For each limit, the fault of a docket beyond it.
+// For each limit, the fault of the docket that goes beyond it.
 const BEYOND: [DocketFault; 5] = [
     DocketFault::Model {
         place: 2_001,
@@ -146,7 +147,7 @@ const BEYOND: [DocketFault; 5] = [
     DocketFault::TooManyRecords { place: 2_000_001 },
 ];
 
-// The docket beyond a limit. `limit` is the index of the limit in `BEYOND`.
+// The docket that goes beyond the limit with this index in `BEYOND`.
 fn beyond(alloc: Global, limit: usize) -> Result<String, AllocError> {
     match limit {
         0 => most_programmes_and(alloc, "Q,q,10000\n"),

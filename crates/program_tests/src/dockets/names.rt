@@ -1,11 +1,12 @@
-//! Names with the same beginning, and a machine without random bytes for hashing names.
+//! Names that begin alike, and a machine without random bytes for hashing names.
 use super::{is_told, tells};
 use crate::texts::SMALL;
 use docket::read_docket;
 use std::test::Fail;
 use test_support::randomness::NoRandomness;
 
-// Names of which each begins with the name before, or differs from the name before only in its last byte.
+// Names each of which begins with the one before it, or differs from the one before it only in its last
+// byte.
 const ALIKE: &str =
     "R,abcdefg\nR,abcdefgh\nR,abcdefgi\nR,abcdefghi\nR,abcdefghj\nR,abcdefghijklmnop\nR,abcdefghijklmnoq\nR,abcdefghijklmnopq\nR,abcdefghijklmnopqrstuvwxyz01234\nR,abcdefghijklmnopqrstuvwxyz012345\nR,abcdefghijklmnopqrstuvwxyz012346\n";
 

@@ -3,8 +3,9 @@ use super::{first_wrong, first_wrong_of_version_2};
 use std::test::Fail;
 
 // Two faults in the same record. A wrong number of fields is reported before a bad name, and a bad name before a bad
-// number or a bad kind of answer. After these come a name that is declared twice, and then a limit. An undeclared name
-// is reported before a name that is listed twice, and before a second row of the same member.
+// number or a bad kind of answer. After these comes a name that is declared twice, and then a limit. In the later
+// passes, an undeclared name is reported before a name that is listed twice, and before a second row of the same
+// member.
 const ONE_RECORD: &str = "\
 Q,/,1,1 = record 1: wrong number of fields
 Q,/,x = record 1: bad name
@@ -21,7 +22,7 @@ Q,a,1 R,x P,a,x,x,y = record 3: unknown name
 P,b,x,x R,x = record 1: unknown name
 R,x U,x M,x,b = record 3: unknown name";
 
-// Two faults in two records, which the same pass over the rows finds.
+// Two faults in two records, both found by the same pass.
 const ONE_PASS: &str = "\
 Q,a,x Z = record 1: bad quota
 Q,a,10001 Q,/,1 = record 1: quota over 10000
@@ -33,8 +34,8 @@ R,x U,x U,y U,x = record 3: unknown name
 Q,a,1 Q,b,1 F,b,1,1 F,a,1,1 = record 3: bad sheet
 C,full E,close E,offer,a,x E,take,x,a = record 3: unknown name";
 
-// Two faults in two records, which two passes find. The fault of the earlier pass stands in the later record. The
-// passes are the first, the second, and the third in each of its walks.
+// Two faults in two records, found by two passes. The earlier pass finds its fault in the later record. The passes
+// are the first, the second, and the third in each of its walks.
 const EARLIER_PASS: &str = "\
 Q,a,1 P,b Z = record 3: unknown kind of row
 Q,a,1 P,b Q,c,10001 = record 3: quota over 10000
@@ -49,8 +50,8 @@ C,full E,take,y,a R,x U,x U,x R,z = record 5: bad sheet
 C,full E,take,y,a R,x R,z U,x = record 5: bad sheet
 C,full E,take,y,a Q,a,1 F,a,1,1 = record 4: bad sheet";
 
-// Two faults in a sheet, which different walks find: an unknown name or a second row, then a member without a row, then
-// wrong numbers of places.
+// Two faults in a sheet, found by different walks of the third pass: an unknown name or a second row, then a member
+// without a row, then wrong numbers of places.
 const WALKS: &str = "\
 R,x R,y U,x U,x C,full = record 4: bad sheet
 R,x R,y U,x U,z C,full = record 4: unknown name

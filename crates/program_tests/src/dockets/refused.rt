@@ -74,7 +74,7 @@ fn tells_what_a_docket_lacks(rt: HostRuntime) -> Result<(), Fail> {
     Ok(())
 }
 
-// The small docket of version 2 without one programme, cut at places where it then has a fault.
+// The small docket of version 2 without one programme, cut short so that it has a fault.
 const CUTS: [(&[&str], DocketFault); 6] = [
     (&["V"], DocketFault::FieldCount { place: 1 }),
     (&["V,"], DocketFault::BadVersion { place: 1 }),

@@ -63,17 +63,18 @@ fn faults_of_version_2(rt: HostRuntime) -> Result<(), Fail> {
     Ok(())
 }
 
-// Whether the instance says of this programme whether it is withdrawn, as expected.
+// Whether the instance says of this programme, as expected, whether it is withdrawn.
 fn is_programme_gone(instance: &Instance, programme: ProgrammeNo, gone: bool) -> bool {
     programme.0 < instance.programmes() && instance.programme_withdrawn(programme) == gone
 }
 
-// Whether the instance says of this resident whether the resident is withdrawn, as expected.
+// Whether the instance says of this resident, as expected, whether the resident is withdrawn.
 fn is_resident_gone(instance: &Instance, resident: ResidentNo, gone: bool) -> bool {
     resident.0 < instance.residents() && instance.resident_withdrawn(resident) == gone
 }
 
-// Whether exactly these members of the small docket are withdrawn, if these rows stand at its end.
+// Whether exactly these members are withdrawn if these rows stand at the end of the small docket of
+// version 2.
 fn withdraws(alloc: Global, rows: &str, gone: [bool; 4]) -> Result<bool, AllocError> {
     let text = joined(alloc, &[VERSION_2, SMALL, rows])?;
     let [a, b, x, y] = gone;

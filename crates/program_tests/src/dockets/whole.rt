@@ -26,7 +26,7 @@ fn is_whole(docket: &Docket) -> bool {
     docket.instance().pairs() == 4 && is_right_sheet(sheet) && is_right_journal(journal)
 }
 
-// Whether the docket that is read from these texts has each part as expected.
+// Whether the docket in these texts is read with each part as expected.
 fn reads_whole(alloc: Global, texts: &[&str]) -> Result<bool, AllocError> {
     let text = joined(alloc, texts)?;
     match read(alloc, text.as_str()) {
@@ -35,7 +35,7 @@ fn reads_whole(alloc: Global, texts: &[&str]) -> Result<bool, AllocError> {
     }
 }
 
-// How many entries the sheet has, if there is a sheet, and whether there is a journal.
+// How many entries the sheet of the docket has, if it has a sheet, and whether it has a journal.
 fn parts(alloc: Global, input: &str) -> Option<(Option<u32>, bool)> {
     match read(alloc, input) {
         Ok(docket) => Some((

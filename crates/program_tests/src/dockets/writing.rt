@@ -22,7 +22,7 @@ const CROWDED: &str = "F,a,02,01\nM,x,a\nU,z\nM,y,a\nR,x\nR,y\nR,z\nQ,a,1\n";
 
 const CROWDED_SHEET: &str = "M,x,a\nM,y,a\nU,z\nF,a,2,1\n";
 
-// Writes the sheet that the docket has.
+// Writes the docket's own sheet.
 fn write_own_sheet<W: Write>(
     alloc: Global,
     docket: &Docket,
@@ -34,7 +34,7 @@ fn write_own_sheet<W: Write>(
     }
 }
 
-// Writes the journal that the docket has.
+// Writes the docket's own journal.
 fn write_own_journal<W: Write>(
     alloc: Global,
     docket: &Docket,
@@ -53,7 +53,7 @@ fn write_own_journal<W: Write>(
     }
 }
 
-// Reads a docket, and writes the sheet that it has.
+// Reads a docket, and writes its sheet.
 fn sheet_written<W: Write>(alloc: Global, input: &str, writer: &mut W) -> Result<(), DocketFault> {
     match read(alloc, input) {
         Ok(docket) => write_own_sheet(alloc, &docket, writer),
@@ -61,7 +61,7 @@ fn sheet_written<W: Write>(alloc: Global, input: &str, writer: &mut W) -> Result
     }
 }
 
-// Reads a docket, and writes the journal that it has.
+// Reads a docket, and writes its journal.
 fn journal_written<W: Write>(
     alloc: Global,
     input: &str,
@@ -89,13 +89,13 @@ fn has_journal(alloc: Global, input: &str, capacity: Capacity, events: &[Event])
     }
 }
 
-// Whether a journal that is read with a docket is written as this text.
+// Whether the journal in a docket is written as this text.
 fn writes_journal(alloc: Global, input: &str, journal: &str) -> bool {
     let mut output = Vec::new(alloc);
     journal_written(alloc, input, &mut output) == Ok(()) && output.as_slice() == journal.as_bytes()
 }
 
-// Whether a journal is read, before its members' rows and after them, and is written unchanged.
+// Whether a journal is read both before its members' rows and after them, and is written unchanged.
 fn is_kept(
     alloc: Global,
     members: &str,
@@ -157,7 +157,8 @@ fn keeps_journals(rt: HostRuntime) -> Result<(), Fail> {
     Ok(())
 }
 
-// Whether the docket that is read has a journal by this number of workers, with this worker for each event.
+// Whether the docket with this text has a journal by this number of workers, with these workers of the
+// events.
 fn has_workers(alloc: Global, input: &str, workers: u32, who: &[u8]) -> bool {
     match read(alloc, input) {
         Ok(docket) => is_by(&docket, workers, who),
@@ -165,7 +166,7 @@ fn has_workers(alloc: Global, input: &str, workers: u32, who: &[u8]) -> bool {
     }
 }
 
-// Whether the docket has a journal by this number of workers, with this worker for each event.
+// Whether the docket has a journal by this number of workers, with these workers of the events.
 fn is_by(docket: &Docket, workers: u32, who: &[u8]) -> bool {
     match docket.journal() {
         Some(journal) => match &journal.by {
@@ -244,7 +245,7 @@ fn a_writer_that_fails(rt: HostRuntime) -> Result<(), Fail> {
     Ok(())
 }
 
-// The bytes of a row with two fields and of a programme's row, as a writer gets them.
+// What a writer gets of a row with two fields and of a programme's row.
 fn gathered(alloc: Global, docket: &Docket) -> Result<Vec<u8>, DocketFault> {
     let mut output = Vec::new(alloc);
     let mut room = room_for_rows(alloc)?;
@@ -257,7 +258,7 @@ fn gathered(alloc: Global, docket: &Docket) -> Result<Vec<u8>, DocketFault> {
     Ok(output)
 }
 
-// The bytes of such rows for a docket that is read from this text.
+// What `gathered` gives for the docket with this text.
 fn gathered_of(alloc: Global, input: &str) -> Result<Vec<u8>, DocketFault> {
     match read(alloc, input) {
         Ok(docket) => gathered(alloc, &docket),

@@ -1,5 +1,5 @@
-//! What a match writes whose journal is asked for. If the output is appended to its docket, the sheet is stable and the
-//! replay is good.
+//! What a match writes that is asked for its journal. If this is appended to the match's docket, the sheet is stable
+//! and the replay is good.
 use crate::commands::{NARROW_WITH_JOURNAL, WITH_JOURNAL, serve};
 use crate::markets::hundreds;
 use crate::texts::{
@@ -40,7 +40,8 @@ fn tells<H: Threads + Wait + RandomSource + Sync + Send + Copy>(
     status == Ok(wanted) && output.as_slice() == text.as_bytes()
 }
 
-/// Whether a written sheet and journal, appended to these members' rows, are stable and replay well.
+/// Whether a written sheet and journal, appended to these members' rows, are read as a stable sheet and a good
+/// replay.
 pub(super) fn is_good<H: Threads + Wait + RandomSource + Sync + Send + Copy>(
     rt: H,
     alloc: Global,
@@ -71,7 +72,7 @@ pub(super) fn is_good<H: Threads + Wait + RandomSource + Sync + Send + Copy>(
     )
 }
 
-// The members of `QUOTAS` without one programme, in a docket of version 2.
+// The members of `QUOTAS` in a docket of version 2 that withdraws one programme.
 const LEFT: &str = "V,2\nQ,a,2\nQ,b,1\nP,a,x,y,z\nP,b,x\nR,x,b,a\nR,y,a\nR,z,a\nW,P,b\n";
 
 #[test]
@@ -91,7 +92,7 @@ fn its_journal_is_good(rt: HostRuntime) -> Result<(), Fail> {
     Ok(())
 }
 
-// Dockets with the same members that already have a sheet, or a journal of another exchange, or both.
+// Dockets with the members of `SMALL` that already have a sheet, or a journal of another exchange, or both.
 const USED: [&[&str]; 5] = [
     &[SMALL, OTHER_SHEET],
     &[SMALL, "C,7\n", CLOSE],
@@ -100,7 +101,7 @@ const USED: [&[&str]; 5] = [
     &[OTHER_SHEET, SMALL, "C,7\n", SMALL_JOURNAL, CLOSE],
 ];
 
-// Whether the text is exactly the sheet, the row of the capacity, and the nine events of an exchange.
+// Whether the text is exactly the sheet of `SMALL`, the row of the capacity, and the nine events of an exchange.
 fn is_new(written: &[u8], capacity: &str) -> bool {
     let (sheet, journal) = written.split_at(written.len().min(SMALL_SHEET.len()));
     sheet == SMALL_SHEET.as_bytes()

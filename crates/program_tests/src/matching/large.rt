@@ -12,7 +12,7 @@ use std::test::Fail;
 use std::thread::Threads;
 use test_gates::gates::{Firm, Held};
 
-// Runs a match through a gate that keeps a call of `pass` waiting.
+// Runs a match with a gate that keeps one call of `pass` waiting.
 fn matched_through<H: Threads + Wait + RandomSource + Sync + Send + Copy>(
     rt: H,
     alloc: Global,
@@ -30,7 +30,8 @@ fn matched_through<H: Threads + Wait + RandomSource + Sync + Send + Copy>(
     )
 }
 
-// How many events two workers entered together, if the gate kept its call waiting and each worker entered some.
+// How many events two workers entered together; none unless the gate kept its call waiting and each of the two
+// entered some.
 fn seen(held: &Held) -> Option<u64> {
     let (first, second) = (held.count(0), held.count(1));
     if held.has_held() && first > 0 && second > 0 {
@@ -50,7 +51,7 @@ fn two_at_once(rt: HostRuntime) {
     assert!(rt; seen(&firm.0) == Some(9));
 }
 
-// Whether a sheet has exactly a row for each of 20,000 residents and of 2,000 programmes.
+// Whether a sheet has exactly a row for each of 20,000 residents and each of 2,000 programmes.
 fn is_widest_sheet(sheet: &[u8]) -> bool {
     let residents = rows(sheet, "M,").saturating_add(rows(sheet, "U,"));
     residents == 20_000 && rows(sheet, "F,") == 2_000 && rows(sheet, "") == 22_000
@@ -83,7 +84,7 @@ fn the_widest_docket(rt: HostRuntime) -> Result<(), Fail> {
     Ok(())
 }
 
-// A match with the greatest number of places in each mailbox, and with the journal.
+// A match with the largest capacity that is a number, and with the journal.
 const ROOMY: Order = Order::Match(MatchOptions {
     workers: 2,
     capacity: Capacity::Each(1_024),

@@ -5,7 +5,7 @@ use super::Counts;
 use exchange_core::Desk;
 use match_pool::{Gate, Go};
 
-/// A gate that counts how often each worker called `entered`. The gate never stops the run.
+/// A gate that counts the calls of `entered` by each worker. It never stops the run.
 #[derive(Drop)]
 pub struct Counting {
     counts: Counts,

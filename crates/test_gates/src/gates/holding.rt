@@ -17,7 +17,7 @@ pub struct Held {
 }
 
 impl Held {
-    /// A new record, before the run. The gate keeps the call with the number `place` waiting, counted from 0.
+    /// A new record, before the run. The call with the number `place`, counted from 0, is to be kept waiting.
     pub fn new(place: u64) -> Held {
         Held {
             place,
@@ -27,7 +27,7 @@ impl Held {
         }
     }
 
-    /// Whether the gate kept the call waiting, and other workers entered events meanwhile.
+    /// Whether the call was kept waiting, and other workers entered events meanwhile.
     pub fn has_held(&self) -> bool {
         self.held.load(Ordering::SeqCst)
     }
@@ -47,7 +47,7 @@ impl Held {
         self.counts.of_all().saturating_sub(self.counts.of(worker))
     }
 
-    // Keeps the chosen call of `pass` waiting. Returns whether the gate has given up waiting for the other workers.
+    // Keeps the chosen call of `pass` waiting. Returns whether the wait ended without the events of other workers.
     fn gives_up(&self, worker: usize) -> bool {
         if self.passed.fetch_add(1, Ordering::SeqCst) != self.place {
             return false;
@@ -64,7 +64,7 @@ impl Held {
     }
 }
 
-/// A gate that keeps a call of `pass` waiting, and never stops the run.
+/// A gate that keeps one call of `pass` waiting, and never stops the run.
 #[derive(Drop)]
 pub struct Firm(pub Held);
 
@@ -83,7 +83,7 @@ impl Gate for Firm {
     }
 }
 
-/// A gate that keeps a call of `pass` waiting, and stops the run if it gives up.
+/// A gate that keeps one call of `pass` waiting, and stops the run if the wait was in vain.
 #[derive(Drop)]
 pub struct Loose(pub Held);
 
@@ -118,9 +118,9 @@ pub enum Order {
 
 /// A gate for a market of pairs: each pair is a programme with one place and a resident, who rank only each other.
 ///
-/// The gate keeps all workers but the last one waiting, each in its own call of `pass`. Once every event is entered
-/// that needs no waiting worker, the gate releases the first worker. The gate releases each further worker once every
-/// event is entered that needs none of the workers still waiting.
+/// The gate keeps all workers but the last one waiting, each in a call of `pass`. It releases the first of them once
+/// every event is entered that needs no waiting worker. It releases each further one once every event is entered that
+/// needs none of the workers that still wait.
 #[derive(Drop)]
 pub struct AllButOne {
     pairs: u64,
@@ -135,7 +135,7 @@ pub struct AllButOne {
 }
 
 impl AllButOne {
-    /// A gate before a run with this number of pairs. The gate keeps `held` workers waiting.
+    /// A gate before a run with this number of pairs, which keeps `held` workers waiting.
     pub fn new(pairs: u64, held: u64, order: Order) -> AllButOne {
         AllButOne {
             pairs,
@@ -150,12 +150,12 @@ impl AllButOne {
         }
     }
 
-    /// Whether the gate kept `held` workers waiting and released each of them, and gave up on none.
+    /// Whether the gate kept `held` workers waiting and released each of them, without giving up on any.
     pub fn has_held_all(&self) -> bool {
         self.gone.load(Ordering::SeqCst) == self.held && !self.gave_up.load(Ordering::SeqCst)
     }
 
-    // When a worker is released, by the number at which the worker came.
+    // In which place a worker is released that came in this place.
     fn place_of(&self, came: u64) -> u64 {
         match self.order {
             Order::FirstFirst => came,
@@ -165,8 +165,8 @@ impl AllButOne {
         }
     }
 
-    // Whether the worker at this number is released now: all workers to be kept waiting have come, the workers before
-    // it were released, and every possible event is entered.
+    // Whether the worker in this place is released now: all workers to be kept waiting have come, those before it
+    // were released, and every event that is possible is entered.
     fn is_turn_of(&self, place: u64) -> bool {
         let entered = self.counts.of_all();
         let blocked = self.blocked.load(Ordering::SeqCst);
@@ -175,7 +175,7 @@ impl AllButOne {
             && entered.saturating_add(blocked) >= self.pairs.saturating_mul(4)
     }
 
-    // Keeps a worker waiting. This number of events can be entered only once this worker goes on.
+    // Keeps a worker waiting. `events` is the number of events that can be entered only once it goes on.
     fn hold(&self, came: u64, events: u64) {
         self.blocked.fetch_add(events, Ordering::SeqCst);
         self.is_held.fetch_add(1, Ordering::SeqCst);

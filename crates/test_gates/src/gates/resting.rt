@@ -10,7 +10,8 @@ use std::sync::atomic::{AtomicBool, AtomicU32, AtomicU64, Ordering};
 use std::thread;
 use std::time::Duration;
 
-/// Which worker was kept waiting in a call of `pass`, and how many events were entered when the wait began and ended.
+/// Which worker was kept waiting in a call of `pass`, and how many events were entered when the wait began and when
+/// it ended.
 #[derive(Clone, Copy, Debug, PartialEq, Eq)]
 pub struct Hold {
     /// The worker that was kept waiting.
@@ -25,8 +26,8 @@ pub struct Hold {
     pub to: u64,
 }
 
-/// A gate that keeps one call of `pass` waiting until no worker has entered an event for a long time. The gate notes
-/// what it saw.
+/// A gate that keeps one call of `pass` waiting until no worker has entered an event for a long time, and notes what
+/// it saw.
 #[derive(Drop)]
 pub struct Stalls {
     place: u64,
@@ -42,7 +43,7 @@ pub struct Stalls {
 }
 
 impl Stalls {
-    /// A gate before the run. The gate keeps the call with the number `place` waiting, counted from 0.
+    /// A gate before the run. It keeps the call with the number `place` waiting, counted from 0.
     pub fn new(place: u64) -> Stalls {
         Stalls {
             place,
@@ -118,8 +119,8 @@ impl Gate for Stalls {
     }
 }
 
-/// A gate that keeps the worker waiting that entered the event with this number, counted from 1. The wait ends when
-/// another worker has entered an event.
+/// A gate that keeps one worker waiting: the one that entered the event with this number, counted from 1. The wait
+/// ends when another worker has entered an event.
 #[derive(Drop)]
 pub struct HoldsEntered {
     number: u64,
@@ -178,9 +179,9 @@ impl Gate for HoldsEntered {
     }
 }
 
-/// A gate that keeps the worker waiting that entered the first event. The wait ends a while after other workers have
-/// entered two events, or have entered none for a long time. The gate keeps the worker waiting again at its next event,
-/// until another worker has entered one event more.
+/// A gate that keeps the worker that entered the first event waiting twice. The first wait ends a while after other
+/// workers have entered two events, or after they have entered none for a long time. At this worker's next event the
+/// second wait begins, and ends when another worker has entered one more event.
 #[derive(Drop)]
 pub struct HoldsVisit {
     has_begun: AtomicBool,
@@ -243,16 +244,15 @@ impl Gate for HoldsVisit {
     }
 }
 
-/// For how long, in microseconds, a gate lets the other workers come to rest. By then each worker that found nothing to
-/// do has looked again.
+/// For how long, in microseconds, a gate waits for the other workers to come to rest. Meanwhile each worker that
+/// found nothing to do has looked again.
 const WHILE: u64 = 20_000;
 
 /// How often a gate tests, with a pause between two tests, whether another worker has entered an event.
 const LOOKS: u32 = 150;
 
-/// A gate that keeps each receipt of one desk waiting for a while. After such a receipt the gate keeps the worker
-/// waiting again at the next entry, until another worker has entered an event. After that the gate keeps no worker
-/// waiting.
+/// A gate that keeps each receipt of one desk waiting for a while. At the next entry of that receipt's worker it
+/// keeps the worker waiting until another worker has entered an event. After that it keeps no worker waiting.
 #[derive(Drop)]
 pub struct Rested<R: Wait + Copy> {
     rt: R,
@@ -266,7 +266,7 @@ pub struct Rested<R: Wait + Copy> {
 }
 
 impl<R: Wait + Copy> Rested<R> {
-    /// A gate before a run. The gate looks at the receipts of this desk.
+    /// A gate before a run, which looks at the receipts of this desk.
     pub fn new(rt: R, desk: Desk) -> Rested<R> {
         Rested {
             rt,
@@ -280,7 +280,7 @@ impl<R: Wait + Copy> Rested<R> {
         }
     }
 
-    /// Whether a worker was kept waiting at an entry, and another worker has entered an event meanwhile.
+    /// Whether a worker was kept waiting at an entry, and another worker entered an event meanwhile.
     pub fn has_held(&self) -> bool {
         self.held.load(Ordering::SeqCst)
     }
@@ -337,8 +337,8 @@ impl<R: Wait + Copy + Sync> Gate for Rested<R> {
     }
 }
 
-/// A gate that keeps the first call of `pass` for another desk waiting until a call for this desk was made, and for a
-/// long time after that. The gate keeps the call for this desk waiting until such a call for another desk waits.
+/// A gate for the receipts of this desk. The first call of `pass` for another desk waits until a call for this desk
+/// was made, and for a long time after that. The call for this desk waits until such a call for another desk waits.
 #[derive(Drop)]
 pub struct AfterAnother {
     desk: Desk,
@@ -348,7 +348,7 @@ pub struct AfterAnother {
 }
 
 impl AfterAnother {
-    /// A gate before a run. The gate looks at the receipts of this desk.
+    /// A gate before a run, which looks at the receipts of this desk.
     pub fn new(desk: Desk) -> AfterAnother {
         AfterAnother {
             desk,

@@ -25,9 +25,9 @@ impl Gate for StopsAtOnce {
     fn entered(&self, _worker: usize) {}
 }
 
-/// A gate that stops the run at the call of `pass` with this number, counted from 1, and at each later call. The first
-/// worker that then enters its begun event is kept waiting, until another worker has entered two events, or no worker
-/// has entered an event for a long time.
+/// A gate that stops the run at the call of `pass` with this number, counted from 1, and at each later call. The
+/// first worker that then enters the event that it had begun is kept waiting until another worker has entered two
+/// events, or until no worker has entered an event for a long time.
 #[derive(Drop)]
 pub struct StopsFrom {
     first: u64,
@@ -115,14 +115,14 @@ impl Gate for StopsFrom {
     }
 }
 
-/// For how long, in microseconds, a gate lets the other workers come to rest before it stops the run.
+/// For how long, in microseconds, a gate waits for the other workers to come to rest before it stops the run.
 const WHILE: u64 = 200_000;
 
 /// How often a gate tests whether the run is stopped, with a pause of a millisecond between two tests.
 const LOOKS: u32 = 10_000;
 
-/// A gate that stops the run at the first call of `pass` by one worker, a while after the call was made. By then each
-/// worker without a desk rests. Calls by other workers are kept waiting until the run is stopped.
+/// A gate that stops the run in the first call of `pass` by one worker, after a wait in which each worker without a
+/// desk comes to rest. Calls by other workers are kept waiting until the run is stopped.
 #[derive(Drop)]
 pub struct StopsBy<R: Wait + Copy> {
     rt: R,
@@ -132,7 +132,7 @@ pub struct StopsBy<R: Wait + Copy> {
 }
 
 impl<R: Wait + Copy> StopsBy<R> {
-    /// A gate at which this worker stops the run, or any worker if none is given.
+    /// A gate before a run. This worker stops the run, or any worker if none is given.
     pub fn new(rt: R, worker: Option<usize>) -> StopsBy<R> {
         StopsBy {
             rt,

@@ -98,7 +98,7 @@ impl<J: ExchangeIdentity, T: TakeEnd<AnswerNote> + Drop> Programme<J, T> {
         }
     }
 
-    /// Counts an offer to the resident to whom the programme offers next, if there is such a resident.
+    /// Counts an offer to the resident to whom the programme offers next, if there is one.
     pub(super) fn offer(&mut self, inst: &Instance) -> Option<ResidentNo>
         requires { inst.now ≡ J.inst }
     {

@@ -1,4 +1,5 @@
-//! Dockets beyond the standard limits, at each national limit, and one beyond it.
+//! Dockets that are just over the standard limits; for programmes and residents also dockets at the national limit
+//! and with one member more.
 use super::{ELEVENTH, closes, numbered, ranked};
 use docket::read_docket_within;
 use match_model::Limits;

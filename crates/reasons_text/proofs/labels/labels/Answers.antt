@@ -14,7 +14,7 @@ pub loop-number-preserved : goal.loop-number-preserved
 loop-number-preserved c =
     let d = c.args.docket.now in
     let read = side_of c.args.key.now in
-    let owners = rw c.as_slice.ensures.value at c.in_ok-owners.ensures in
+    let owners = c.in_ok-owners.ensures in
     let label = string_bytes c.in_ok-label.label in
     rw (c.in_ok-push.ensures.items, map-append string_bytes c.loop-number.labels.items (c.in_ok-label.label ∷ []))
     (labels_more d c.args.side read c.loop-number.number (map string_bytes c.loop-number.labels.items) label c.loop-number.invariant

@@ -1,27 +1,28 @@
-use Rattle.std.proofs.Common.{arith, map}
+use Rattle.std.proofs.Common.{arith}
 use Rattle.std.specs.Prelude.{string_bytes}
-use Rattle.reasons_text.specs.Keys.{has_name}
+use Rattle.std.proofs.lemmas.List.{length-map}
+use Rattle.reasons_text.specs.Naming.{is_meant, side_of}
 use Rattle.reasons_text.specs.Numbers.{owner_in}
-use Rattle.reasons_text.proofs.LabelFacts.{named_rows, owner_more}
-use Rattle.reasons_text.proofs.MeantFacts.{meant_none}
+use Rattle.reasons_text.proofs.LabelFacts.{owner_more}
+use Rattle.reasons_text.proofs.MeantFacts.{meant_none, meant_within}
 use Rattle.reasons_text.proofs.labels.owners.Goals as goal
 
 pub loop-number-init : goal.loop-number-init
-loop-number-init c name =
-    rw c.with_hasher-owners.ensures.empty (meant_none (has_name c.args.docket.now c.args.side (map string_bytes c.args.names.now) name))
+loop-number-init c text = rw c.with_hasher-owners.ensures.empty (meant_none (is_meant c.args.docket.now c.args.side (side_of c.args.key.now) text))
 
 pub loop-number-preserved : goal.loop-number-preserved
-loop-number-preserved c name =
-    rw (c.in_ok-note_both.ensures name)
-    (owner_more (has_name c.args.docket.now c.args.side (map string_bytes c.args.names.now) name) c.loop-number.number (owner_in c.loop-number.owners name) (c.loop-number.invariant name))
+loop-number-preserved c text =
+    rw (c.in_ok-note_all.ensures text)
+    (owner_more (is_meant c.args.docket.now c.args.side (side_of c.args.key.now) text) c.loop-number.number (owner_in c.loop-number.owners text) (c.loop-number.invariant text))
 
 pub returns : goal.returns
-returns c name =
+returns c text =
     let past = c.loop-number-test.false in
-    let members = c.named-number-end.ensures.members in
-    let rows = c.named-number-end.ensures.rows in
+    let size = length-map c.args.labels.now string_bytes in
+    let members = c.requires.members in
+    let rows = c.requires.rows in
     record {
       named = c.loop-number.number;
-      all = λ k has. named_rows c.args.docket.now c.args.side c.args.names.now name c.loop-number.number k (omega (arith, past, members)) (omega (arith, past, rows)) has;
-      is = c.loop-number.invariant name;
+      all = λ k met. meant_within c.args.docket.now c.args.side (side_of c.args.key.now) text c.loop-number.number k (omega (arith, past, size, members)) (omega (arith, past, size, rows)) met;
+      is = c.loop-number.invariant text;
     }

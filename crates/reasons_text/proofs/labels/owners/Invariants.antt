@@ -1,9 +1,7 @@
-use Rattle.std.proofs.Common.{List, ℕ, map}
-use Rattle.std.specs.Prelude.{string_bytes}
-use Rattle.reasons_text.specs.Keys.{has_name}
-use Rattle.reasons_text.specs.Naming.{IsMeantBelow}
+use Rattle.std.proofs.Common.{List, ℕ}
+use Rattle.reasons_text.specs.Naming.{IsMeantBelow, is_meant, side_of}
 use Rattle.reasons_text.specs.Numbers.{owner_in}
 use Rattle.reasons_text.proofs.labels.owners.Given as goal
 
 abbrev pub invariant-loop-number : goal.invariant-loop-number
-invariant-loop-number l = (name : List ℕ) → IsMeantBelow (has_name l.docket l.side (map string_bytes l.names) name) l.number (owner_in l.owners name)
+invariant-loop-number l = (text : List ℕ) → IsMeantBelow (is_meant l.docket l.side (side_of l.key) text) l.number (owner_in l.owners text)

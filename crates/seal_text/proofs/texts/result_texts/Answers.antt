@@ -1,7 +1,5 @@
 use Rattle.std.proofs.Common.{◌++◌, ◌∙◌, List, ℕ, length, map, ap}
-use Rattle.std.specs.Global.{Vec}
 use Rattle.std.specs.List.{range_with_len}
-use Rattle.seal_text.specs.Grown.{texts_of}
 use Rattle.seal_text.specs.Texts.{programme_result}
 use Rattle.seal_text.proofs.texts.result_texts.Goals as goal
 
@@ -14,5 +12,5 @@ returns c =
       residents = pushed.texts;
       are = pushed.are;
       texts_are = pushed.pushed ∙ ap (λ (t : List (List ℕ)). t ++ pushed.texts)
-          (c.in_ok-push_programme_results.ensures ∙ ap (λ (ts : List (Vec ℕ)). texts_of ts ++ first) c.new-texts.ensures.items);
+          (c.in_ok-texts.ensures);
     }

@@ -2,7 +2,7 @@ use Rattle.std.proofs.Common.{◌≡◌, ℕ, List, [], Option, Some, ap, sym, �
 use Rattle.std.specs.Prelude.{unwrap_or}
 use Rattle.match_model.specs.Instance.{Instance}
 use Rattle.match_model.specs.Written.{AreWritten, Written}
-use Rattle.reasons_text.specs.Answers.{AreTaken}
+use Rattle.match_reasons.specs.Reason.{AreTaken}
 use Rattle.reasons_text.proofs.AnswerFacts.{made_of_lists}
 use Rattle.reasons_text.proofs.case.Case.of_docket.Goals as goal
 
@@ -19,5 +19,5 @@ invariant_of-result c =
       limits = c.requires.limits;
       read = c.requires.read;
       taken = subst (λ (m : List (Option ℕ)). AreTaken c.args.lists m c.in_ok-takens.takens.items) (sym sheet)
-          (subst (λ (w : Written). AreTaken w c.in-Some.sheet.now c.in_ok-takens.takens.items) c.new-listed.ensures.written c.in_ok-takens.ensures);
+          (subst (λ (w : Written). AreTaken w c.in-Some.sheet.now c.in_ok-takens.takens.items) c.new-listed.ensures.written c.in_ok-takens.ensures.taken);
     }

@@ -1,0 +1,48 @@
+//! How a program's commands are described to the command line's parser.
+ghost use Rattle.std.specs.Prelude.{◌≡◌, IfOk, true};
+ghost use Rattle.clap.specs.Words.{app_of, new_app, with_subcommand};
+ghost use Rattle.program_shell.specs.Flags.{of_commands};
+
+use clap::Command;
+use std::alloc::{AllocError, Global};
+
+/// The description of a command: its name, its usage and its help.
+pub fn described<'a>(
+    alloc: Global,
+    name: &'a str,
+    call: &'a str,
+    about: &'a str,
+    help: &'a str,
+) -> Command<'a>
+    ensures { app_of result ≡ new_app name.entry.now }
+{
+    let command = Command::new(alloc, name).override_usage(call);
+    command.about(about).after_help(help)
+}
+
+/// The description of a program that has commands, before its commands are added. The program's own name isn't among
+/// the words.
+pub fn with_commands<'a>(
+    alloc: Global,
+    name: &'a str,
+    about: &'a str,
+    version: &'a str,
+) -> Result<Command<'a>, AllocError>
+    ensures { IfOk result (λ program. app_of program ≡ of_commands name.entry.now) }
+{
+    let program = Command::new(alloc, name).bin_name(name)?;
+    let program = program.about(about).version(version);
+    Ok(program.no_binary_name(true).subcommand_required(true))
+}
+
+/// A program's description with one command more.
+pub fn with_command<'a>(
+    program: Command<'a>,
+    command: Command<'a>,
+) -> Result<Command<'a>, AllocError>
+    requires { (app_of command).top.is_plain ≡ true }
+    ensures { IfOk result (λ both.
+        app_of both ≡ with_subcommand (app_of program.entry) (app_of command.entry).top) }
+{
+    program.subcommand(command)
+}

@@ -1,0 +1,8 @@
+use Rattle.std.proofs.Common.{◌≡◌, ◌<◌, ◌^◌, IfSome}
+use Rattle.receipt_check.specs.Pair.{last_within}
+use Rattle.receipt_check.specs.Receipt.{members}
+use Rattle.receipt_check.specs.Shown.{content, fields_in}
+use Rattle.receipt_check.proofs.side.last_place.Given as goal
+
+abbrev pub invariant-loop-k : goal.invariant-loop-k
+invariant-loop-k l = (l.last ≡ last_within (fields_in l.shown.list.now) (members (content l.shown)) l.k) × IfSome l.last (λ k. k < 2 ^ 63)

@@ -1,0 +1,206 @@
+//! Comparing the receipts of a resident and a programme.
+ghost use Rattle.std.specs.Prelude.{◌≡◌, ◌≢◌, ℕ, None, Some, List, IfErr, IfOk, MatchResult, OnOk, is_some, not, true};
+ghost use Rattle.std.specs.Io.KnownBytes.{Appends};
+ghost use Rattle.docket_names.specs.Words as words;
+ghost use Rattle.receipt_check.specs.Compared.{IsCompareFault, pair_fault};
+ghost use Rattle.receipt_check.specs.Pair as pair;
+ghost use Rattle.receipt_check.specs.Pair.{content_of};
+ghost use Rattle.receipt_check.specs.Rows as form;
+ghost use Rattle.receipt_check.specs.Shown.{content, rows_in};
+ghost use Rattle.receipt_check.specs.Side.{IsSide, receipt_of};
+
+use crate::check::{LONGEST, checked};
+use crate::difference::{first_difference, is_number};
+use crate::kind::Kind;
+use crate::pair_words::put_pair;
+use crate::published::Published;
+use crate::rows::{plain_text, split_rows};
+use crate::shown::Shown;
+use crate::side::{Side, side_of};
+use crate::wrong::{CompareFault, Fault, Wrong, at};
+use std::alloc::{AllocError, Global};
+use std::hash::RandomState;
+use std::io::Write;
+use std::random::RandomSource;
+
+/// The text of a receipt as it was printed; nothing of a file that is longer than any receipt.
+pub(crate) fn short_text(alloc: Global, file: &[u8]) -> Result<Vec<u8>, AllocError>
+    ensures { IfOk result (λ text. text.items ≡ pair.short_text file.now) }
+{
+    if file.len() > LONGEST {
+        return Ok(Vec::new(alloc));
+    }
+    plain_text(alloc, file)
+}
+
+// What is wrong with the number of members that a receipt tells.
+fn members_fault(lists: &Published, outcome: &Published, shown: &Shown) -> Option<Fault>
+    ensures { result
+        ≡ pair.members_fault lists.now.members outcome.now.members (content shown.now) }
+{
+    if !is_number(shown.count, lists.members as usize) {
+        return Some(at(1, Wrong::Members));
+    }
+    if !is_number(shown.count, outcome.members as usize) {
+        return Some(at(shown.end(), Wrong::Members));
+    }
+    None
+}
+
+/// The receipt in the rows of a file's text, or what is wrong with it.
+#[tactic(auto, unfolding(crate::specs::Pair::compared_fault))]
+pub(crate) fn compared<'r, 'a>(
+    alloc: Global,
+    keys: RandomState,
+    lists: &Published,
+    outcome: &Published,
+    file: &[u8],
+    text: &[u8],
+    rows: &'r [Vec<&'a [u8]>],
+) -> Result<Result<Side<'r, 'a>, Fault>, AllocError>
+    requires text { text.now ≡ pair.short_text file.now }
+    requires rows { rows_in rows.now ≡ form.split_rows text.now }
+    ensures { IfOk result (λ answer. MatchResult answer
+        (λ side. (pair.compared_fault lists.now.members lists.now.root outcome.now.members
+        outcome.now.root file.now ≡ None) × (receipt_of side ≡ content_of file.now)
+        × IsSide side × (words.is_name (content_of file.now).name ≡ true))
+        (λ fault. pair.compared_fault lists.now.members lists.now.root outcome.now.members
+        outcome.now.root file.now ≡ Some fault)) }
+{
+    if file.len() > LONGEST {
+        return Ok(Err(at(0, Wrong::Long)));
+    }
+    let (shown, list) = match checked(alloc, keys, text, rows, &lists.root, Some(&outcome.root))? {
+        Ok(good) => good,
+        Err(fault) => return Ok(Err(fault)),
+    };
+    match members_fault(lists, outcome, &shown) {
+        Some(fault) => Ok(Err(fault)),
+        None => Ok(Ok(side_of(shown, list))),
+    }
+}
+
+// What is wrong with a receipt whose member has to be of this side.
+fn kind_fault(wanted: Kind, kind: Kind) -> Option<Fault>
+    ensures { result ≡ pair.kind_fault wanted kind }
+{
+    match (wanted, kind) {
+        (Kind::Programme, Kind::Resident) => Some(at(0, Wrong::NotProgramme)),
+        (Kind::Resident, Kind::Programme) => Some(at(0, Wrong::NotResident)),
+        _ => None,
+    }
+}
+
+// The receipt of a member of this side in the rows of a file's text, or what is wrong with it.
+fn wanted<'r, 'a>(
+    alloc: Global,
+    keys: RandomState,
+    kind: Kind,
+    lists: &Published,
+    outcome: &Published,
+    file: &[u8],
+    text: &[u8],
+    rows: &'r [Vec<&'a [u8]>],
+) -> Result<Result<Side<'r, 'a>, Fault>, AllocError>
+    requires text { text.now ≡ pair.short_text file.now }
+    requires rows { rows_in rows.now ≡ form.split_rows text.now }
+    ensures { IfOk result (λ answer. MatchResult answer
+        (λ side. (pair.side_fault kind lists.now.members lists.now.root outcome.now.members
+        outcome.now.root file.now ≡ None) × (receipt_of side ≡ content_of file.now) × IsSide side)
+        (λ fault. pair.side_fault kind lists.now.members lists.now.root outcome.now.members
+        outcome.now.root file.now ≡ Some fault)) }
+{
+    let side = match compared(alloc, keys, lists, outcome, file, text, rows)? {
+        Ok(side) => side,
+        Err(fault) => return Ok(Err(fault)),
+    };
+    match kind_fault(kind, side.shown.kind) {
+        Some(fault) => Ok(Err(fault)),
+        None => Ok(Ok(side)),
+    }
+}
+
+// The sentence on two receipts, and whether they agree; or what is wrong with one of them, and with which.
+fn pair_of(
+    alloc: Global,
+    keys: RandomState,
+    lists: &Published,
+    outcome: &Published,
+    resident: &[u8],
+    programme: &[u8],
+) -> Result<(Vec<u8>, bool), CompareFault>
+    ensures { MatchResult result
+        (λ said. (pair_fault lists.now outcome.now resident.now programme.now ≡ None)
+        × (said.0.items ≡ pair.pair_words (content_of resident.now) (content_of programme.now))
+        × (said.1
+        ≡ not (is_some (pair.difference (content_of resident.now) (content_of programme.now)))))
+        (IsCompareFault (pair_fault lists.now outcome.now resident.now programme.now)) }
+{
+    let (one_text, other_text) = (short_text(alloc, resident)?, short_text(alloc, programme)?);
+    let one_rows = split_rows(alloc, one_text.as_slice())?;
+    let other_rows = split_rows(alloc, other_text.as_slice())?;
+    let (text, rows) = (one_text.as_slice(), one_rows.as_slice());
+    let one = match wanted(
+        alloc,
+        keys,
+        Kind::Resident,
+        lists,
+        outcome,
+        resident,
+        text,
+        rows,
+    )? {
+        Ok(side) => side,
+        Err(fault) => return Err(CompareFault::Wrong(0, fault)),
+    };
+    let (text, rows) = (other_text.as_slice(), other_rows.as_slice());
+    let other = match wanted(
+        alloc,
+        keys,
+        Kind::Programme,
+        lists,
+        outcome,
+        programme,
+        text,
+        rows,
+    )? {
+        Ok(side) => side,
+        Err(fault) => return Err(CompareFault::Wrong(1, fault)),
+    };
+    let found = first_difference(&one, &other);
+    let mut said = Vec::new(alloc);
+    put_pair(&mut said, found, &one, &other)?;
+    Ok((said, found.is_none()))
+}
+
+/// Checks the receipts of a resident and of a programme against what was published. Writes whether they agree, or in
+/// what they differ first, and returns whether they agree. If something is wrong with a receipt, nothing is written.
+pub fn serve_pair<W: Write, H: RandomSource>(
+    rt: &H,
+    alloc: Global,
+    lists: &Published,
+    outcome: &Published,
+    resident: &[u8],
+    programme: &[u8],
+    writer: &mut W,
+) -> Result<bool, CompareFault>
+    ensures good { OnOk result
+        (pair_fault lists.now outcome.now resident.now programme.now ≡ None) }
+    ensures told { OnOk result (Appends (W.contents writer.old) (W.contents writer.new)
+        (pair.pair_words (content_of resident.now) (content_of programme.now))) }
+    ensures agree { IfOk result (λ agree. agree
+        ≡ not (is_some (pair.difference (content_of resident.now) (content_of programme.now)))) }
+    ensures fault { IfErr result
+        (IsCompareFault (pair_fault lists.now outcome.now resident.now programme.now)) }
+    ensures unwritten { IfErr result (λ fault.
+        fault ≢ CompareFault.Write → writer.new ≡ writer.old) }
+{
+    let Ok(keys) = RandomState::new(rt) else {
+        return Err(CompareFault::Memory);
+    };
+    let (text, agree) = pair_of(alloc, keys, lists, outcome, resident, programme)?;
+    match writer.write_all(text.as_slice()) {
+        Ok(()) => Ok(agree),
+        Err(_) => Err(CompareFault::Write),
+    }
+}

@@ -1,0 +1,129 @@
+//! What two receipts differ in.
+ghost use Rattle.std.specs.Prelude.{◌≡◌, ◌<◌, ◌^◌, IfSome};
+ghost use Rattle.docket_names.specs.Texts.{number_in};
+ghost use Rattle.receipt_check.specs.Faults.{plain_number as plain_number_in};
+ghost use Rattle.receipt_check.specs.Pair as pair;
+ghost use Rattle.receipt_check.specs.Shown.{fields_in};
+ghost use Rattle.receipt_check.specs.Side.{IsSide, receipt_of};
+
+use crate::opening::plain_number;
+use crate::rows::{field, is};
+use crate::side::Side;
+
+/// The first thing in which the receipts of a resident and a programme differ.
+#[derive(Clone, Copy, Debug, PartialEq, Eq)]
+pub enum Difference {
+    /// The programme has the resident, and the resident doesn't list the programme.
+    Unlisted,
+    /// The answer is `withdrawn` and neither is withdrawn, or one of them is and the answer is another one.
+    Withdrawn,
+    /// The answer is `unranked` and the programme lists the resident, or it doesn't and the answer is
+    /// another one.
+    Unranked,
+    /// The answer is `matched` and the programme doesn't have the resident, or it does and the answer is
+    /// another one.
+    Matched,
+    /// The resident's rank on the programme's list.
+    Rank,
+    /// The programme's quota.
+    Quota,
+    /// Whether all places of the programme are filled.
+    Filled,
+    /// The rank of the last one of the programme's residents.
+    Last,
+}
+
+/// Whether the answer is this word.
+pub(crate) fn says(fields: &[&[u8]], word: &[u8]) -> bool
+    ensures { result ≡ pair.says (fields_in fields.now) word.now }
+{
+    is(field(fields, 0), word)
+}
+
+/// Whether the digits write this number.
+pub(crate) fn is_number(digits: &[u8], n: usize) -> bool
+    ensures { result ≡ pair.is_number (plain_number_in digits.now) n }
+{
+    match plain_number(digits) {
+        Some(m) => m as usize == n,
+        None => false,
+    }
+}
+
+// Whether the digits write this place, counted from 1. Without a place there may be no digits.
+fn is_place(digits: &[u8], place: Option<usize>) -> bool
+    requires { IfSome place (λ k. k < 2 ^ 63) }
+    ensures { result ≡ pair.is_place digits.now place }
+{
+    match place {
+        Some(k) => is_number(digits, k + 1),
+        None => digits.len() == 0,
+    }
+}
+
+/// Whether the resident or the programme is withdrawn.
+pub(crate) fn is_gone(resident: &Side, programme: &Side) -> bool
+    ensures { result ≡ pair.is_gone (receipt_of resident.now) (receipt_of programme.now) }
+{
+    resident.shown.gone || programme.shown.gone
+}
+
+// The first difference between the answer `full` and the programme's receipt. The programme lists the
+// resident at the place `rank`.
+fn full_difference(fields: &[&[u8]], rank: Option<usize>, programme: &Side) -> Option<Difference>
+    requires rank { IfSome rank (λ k. k < 2 ^ 63) }
+    requires programme { IsSide programme.now }
+    ensures { result ≡ pair.full_difference (fields_in fields.now) rank (receipt_of programme.now) }
+{
+    if !is_place(field(fields, 1), rank) {
+        return Some(Difference::Rank);
+    }
+    if !is(field(fields, 3), programme.shown.quota) {
+        return Some(Difference::Quota);
+    }
+    if !is_number(programme.shown.quota, programme.shown.after.len()) {
+        return Some(Difference::Filled);
+    }
+    if !is_place(field(fields, 2), programme.last) {
+        return Some(Difference::Last);
+    }
+    None
+}
+
+// The first difference between a resident's answer about a programme and the programme's receipt.
+fn answer_difference(fields: &[&[u8]], resident: &Side, programme: &Side) -> Option<Difference>
+    requires { IsSide programme.now }
+    ensures { result ≡ pair.answer_difference (fields_in fields.now)
+        (number_in (receipt_of programme.now).list (receipt_of resident.now).name)
+        (receipt_of resident.now) (receipt_of programme.now) }
+{
+    let gone = is_gone(resident, programme);
+    let rank = programme.place(resident.shown.name);
+    if says(fields, b"withdrawn") != gone {
+        return Some(Difference::Withdrawn);
+    }
+    if !gone && says(fields, b"unranked") == rank.is_some() {
+        return Some(Difference::Unranked);
+    }
+    if says(fields, b"matched") != programme.has(resident.shown.name) {
+        return Some(Difference::Matched);
+    }
+    if says(fields, b"full") {
+        return full_difference(fields, rank, programme);
+    }
+    None
+}
+
+/// The first thing in which the receipts of a resident and a programme differ, if they do.
+#[tactic(auto, unfolding(crate::specs::Pair::difference))]
+pub(crate) fn first_difference(resident: &Side, programme: &Side) -> Option<Difference>
+    requires resident { IsSide resident.now }
+    requires programme { IsSide programme.now }
+    ensures { result ≡ pair.difference (receipt_of resident.now) (receipt_of programme.now) }
+{
+    match resident.place(programme.shown.name) {
+        Some(k) => answer_difference(resident.shown.answer(k), resident, programme),
+        None if programme.has(resident.shown.name) => Some(Difference::Unlisted),
+        None => None,
+    }
+}

@@ -1,0 +1,138 @@
+//! Comparing the receipts of a folder.
+ghost use Rattle.std.specs.Prelude.{◌≡◌, ◌≢◌, ℕ, None, Some, List, IfErr, IfOk, MatchResult, OnOk, length, map};
+ghost use Rattle.std.specs.Io.KnownBytes.{Appends};
+ghost use Rattle.receipt_check.specs.Compared.{IsCompareFault};
+ghost use Rattle.receipt_check.specs.Folder as folder;
+ghost use Rattle.receipt_check.specs.Held.{IsHeld, bytes_in, receipts_of, rows_of};
+ghost use Rattle.receipt_check.specs.Pair as pair;
+ghost use Rattle.receipt_check.specs.Rows as form;
+
+use crate::compared::{compared, short_text};
+use crate::folder::Held;
+use crate::published::Published;
+use crate::rows::split_rows;
+use crate::wrong::{CompareFault, Wrong, at};
+use std::alloc::{AllocError, Global};
+use std::hash::RandomState;
+use std::io::Write;
+use std::random::RandomSource;
+
+// The text of each file, as a receipt was printed.
+fn texts_of(alloc: Global, files: &[Vec<u8>]) -> Result<Vec<Vec<u8>>, AllocError>
+    ensures { IfOk result (λ texts. bytes_in texts.items
+        ≡ map pair.short_text (bytes_in files.now)) }
+{
+    let mut texts = Vec::new(alloc);
+    for k in 0..files.len() {
+        texts.push(short_text(alloc, files[k].as_slice())?)?;
+    }
+    Ok(texts)
+}
+
+// The rows of each text.
+fn rows_in<'a>(alloc: Global, texts: &'a [Vec<u8>]) -> Result<Vec<Vec<Vec<&'a [u8]>>>, AllocError>
+    ensures { IfOk result (λ rows. rows_of rows.items ≡ map form.split_rows (bytes_in texts.now)) }
+{
+    let mut rows = Vec::new(alloc);
+    for k in 0..texts.len() {
+        rows.push(split_rows(alloc, texts[k].as_slice())?)?;
+    }
+    Ok(rows)
+}
+
+// The receipts of all files, or the first file that is at fault, and its fault.
+#[tactic(auto, unfolding(crate::specs::Folder::folder_fault))]
+fn gather<'r, 'a>(
+    alloc: Global,
+    keys: RandomState,
+    lists: &Published,
+    outcome: &Published,
+    files: &[Vec<u8>],
+    texts: &[Vec<u8>],
+    rows: &'r [Vec<Vec<&'a [u8]>>],
+) -> Result<Held<'r, 'a>, CompareFault>
+    requires texts { bytes_in texts.now ≡ map pair.short_text (bytes_in files.now) }
+    requires rows { rows_of rows.now ≡ map form.split_rows (bytes_in texts.now) }
+    ensures { MatchResult result
+        (λ held. (folder.folder_fault lists.now outcome.now (bytes_in files.now) ≡ None)
+        × (receipts_of held ≡ folder.contents_of (bytes_in files.now)) × IsHeld held)
+        (IsCompareFault (folder.folder_fault lists.now outcome.now (bytes_in files.now))) }
+{
+    let mut held = Held::new(alloc, keys);
+    for k in 0..files.len() {
+        let (file, text, rows) = (files[k].as_slice(), texts[k].as_slice(), rows[k].as_slice());
+        let side = match compared(alloc, keys, lists, outcome, file, text, rows)? {
+            Ok(side) => side,
+            Err(fault) => return Err(CompareFault::Wrong(k, fault)),
+        };
+        if held.has(&side) {
+            return Err(CompareFault::Wrong(k, at(2, Wrong::Again)));
+        }
+        held.add(side)?;
+    }
+    Ok(held)
+}
+
+// What is said of the receipts of all files, and whether the placement is stable; or the first file that is at fault,
+// and its fault.
+fn said_of(
+    alloc: Global,
+    keys: RandomState,
+    lists: &Published,
+    outcome: &Published,
+    files: &[Vec<u8>],
+) -> Result<(Vec<u8>, bool), CompareFault>
+    ensures { MatchResult result
+        (λ said. (folder.folder_fault lists.now outcome.now (bytes_in files.now) ≡ None)
+        × (said.0.items ≡ folder.folder_text lists.now.members
+        (folder.contents_of (bytes_in files.now)))
+        × (said.1 ≡ folder.is_stable lists.now.members (folder.contents_of (bytes_in files.now))))
+        (IsCompareFault (folder.folder_fault lists.now outcome.now (bytes_in files.now))) }
+{
+    let texts = texts_of(alloc, files)?;
+    let rows = rows_in(alloc, texts.as_slice())?;
+    let held = gather(
+        alloc,
+        keys,
+        lists,
+        outcome,
+        files,
+        texts.as_slice(),
+        rows.as_slice(),
+    )?;
+    let mut said = Vec::new(alloc);
+    let stable = held.put_said(alloc, &mut said, lists.members as usize)?;
+    Ok((said, stable))
+}
+
+/// Checks the receipts of a folder against what was published, and compares those of residents and programmes who
+/// name each other. Writes which of them differ, how many members and pairs there are, and whether this shows that
+/// the placement is stable. Returns whether it does. If something is wrong with a receipt, nothing is written.
+pub fn serve_pairs<W: Write, H: RandomSource>(
+    rt: &H,
+    alloc: Global,
+    lists: &Published,
+    outcome: &Published,
+    files: &[Vec<u8>],
+    writer: &mut W,
+) -> Result<bool, CompareFault>
+    ensures good { OnOk result
+        (folder.folder_fault lists.now outcome.now (bytes_in files.now) ≡ None) }
+    ensures told { OnOk result (Appends (W.contents writer.old) (W.contents writer.new)
+        (folder.folder_text lists.now.members (folder.contents_of (bytes_in files.now)))) }
+    ensures stable { IfOk result (λ stable. stable
+        ≡ folder.is_stable lists.now.members (folder.contents_of (bytes_in files.now))) }
+    ensures fault { IfErr result
+        (IsCompareFault (folder.folder_fault lists.now outcome.now (bytes_in files.now))) }
+    ensures unwritten { IfErr result (λ fault.
+        fault ≢ CompareFault.Write → writer.new ≡ writer.old) }
+{
+    let Ok(keys) = RandomState::new(rt) else {
+        return Err(CompareFault::Memory);
+    };
+    let (text, stable) = said_of(alloc, keys, lists, outcome, files)?;
+    match writer.write_all(text.as_slice()) {
+        Ok(()) => Ok(stable),
+        Err(_) => Err(CompareFault::Write),
+    }
+}

@@ -1,0 +1,60 @@
+//! The members of one side whose receipts are there.
+ghost use Rattle.std.specs.Prelude.{◌≡◌, ◌∷◌, ◌++◌, [], false, true, is_some, OnOk};
+ghost use Rattle.docket_names.specs.Texts.{is_declared, number_in};
+ghost use Rattle.docket_names.specs.Words as words;
+ghost use Rattle.receipt_check.specs.Folder as folder;
+
+use crate::names::add;
+use docket_names::Texts;
+use std::alloc::{AllocError, Global};
+use std::hash::RandomState;
+
+/// The members of one side whose receipts are there, each with the number of its file.
+#[derive(Drop)]
+pub(crate) struct Present {
+    names: Texts,
+    files: Vec<usize>,
+}
+
+impl Present {
+    /// A side without members.
+    pub(crate) fn new(alloc: Global, keys: RandomState) -> Present
+        ensures names { result.names ≡ [] }
+        ensures files { result.files.items ≡ [] }
+    {
+        Present {
+            names: Texts::new(alloc, keys),
+            files: Vec::new(alloc),
+        }
+    }
+
+    /// Whether the receipt of the member with this name is there.
+    pub(crate) fn has(&self, name: &[u8]) -> bool
+        ensures { result ≡ is_declared self.now.names name.now }
+    {
+        self.names.find(name).is_some()
+    }
+
+    /// Adds a member, whose receipt is in this file.
+    pub(crate) fn add(&mut self, name: &[u8], file: usize) -> Result<(), AllocError>
+        requires lawful { words.is_name name.now ≡ true }
+        requires fresh { is_declared self.old.names name.now ≡ false }
+        ensures names { OnOk result (self.new.names ≡ self.old.names ++ name.now ∷ []) }
+        ensures files { OnOk result (self.new.files.items ≡ self.old.files.items ++ file ∷ []) }
+    {
+        add(&mut self.names, name)?;
+        self.files.push(file)?;
+        Ok(())
+    }
+
+    /// The number of the file with the receipt of the member with this name.
+    pub(crate) fn file(&self, name: &[u8]) -> Option<usize>
+        ensures { result ≡ folder.file_in self.now.files.items
+            (number_in self.now.names name.now) }
+    {
+        match self.names.find(name) {
+            Some(n) => self.files.get(n).copied(),
+            None => None,
+        }
+    }
+}

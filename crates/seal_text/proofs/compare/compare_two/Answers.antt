@@ -1,0 +1,15 @@
+use Rattle.std.proofs.Common.{◌≡◌, inr, rules}
+use Rattle.std.specs.Prelude.{IfOk, MatchResult, OnOk, Result, Ok, Err}
+use Rattle.seal_text.proofs.CompareFacts.{compared}
+use Rattle.seal_text.proofs.compare.compare_two.Goals as goal
+
+pub returns : goal.returns
+returns g c = inr (record {
+  answer = c.serve_pair-answer.result;
+  appends = record {
+    resident = c.as_slice-one.result.now;
+    programme = c.as_slice-other.result.now;
+    answers = compared g.W.Write.contents _ _ c.serve_pair-answer.result _ _ _ _ _ c.serve_pair-answer.ensures.good c.serve_pair-answer.ensures.told c.serve_pair-answer.ensures.agree c.serve_pair-answer.ensures.fault c.serve_pair-answer.ensures.unwritten;
+  };
+  tells = search rules;
+})

@@ -1,0 +1,169 @@
+//! Comparing receipts, each read from its own file.
+ghost use Rattle.std.specs.Prelude.{◌≡◌, ◌⊎◌, IfSome, None, Some};
+ghost use Rattle.std.specs.Process.{exit_status as exit_status_in};
+ghost use Rattle.program_shell.specs.Ends.{EndsServed};
+ghost use Rattle.receipt_check.specs.Published.{published_in};
+ghost use Rattle.seal_text.specs.Compared.{AnswersFolder, AnswersPair, EndsBadRow, EndsPair, EndsPairs};
+ghost use Rattle.seal_text.specs.Status.{compare_status_of};
+
+use crate::compare_line::{Rows, Two};
+use crate::directory::{load_all, paths_in, shown};
+use crate::status::compare_status;
+use program_shell::{Unread, load_path, refuse_unread};
+use receipt_check::{CompareFault, Published, published_of, serve_pair, serve_pairs};
+use std::alloc::Global;
+use std::io::Write;
+use std::process::ExitCode;
+use std::random::RandomSource;
+use std::rt::Files;
+
+// Writes that the value of an option isn't the row of a root, and gives the exit status.
+fn refuse_row<T: Eprint>(told: &T, word: &str) -> ExitCode
+    ensures { exit_status_in result ≡ 2 }
+{
+    let _ = eprintln!(told;
+        "residency: --{word}: not a number, a comma and 64 small hexadecimal digits"
+    );
+    ExitCode::from(2)
+}
+
+// Writes why receipts weren't compared. No exit status depends on whether this text could be written.
+fn tell<T: Eprint>(told: &T, path: Option<&str>, fault: &CompareFault) {
+    let _ = match path {
+        Some(path) => eprintln!(told; "residency: {path}: {fault}"),
+        None => eprintln!(told; "residency: {fault}"),
+    };
+}
+
+// The path of the file at fault as it is shown, if a file is at fault.
+fn path_at(alloc: Global, paths: &[String], fault: &CompareFault) -> Option<String> {
+    match fault {
+        CompareFault::Wrong(file, _) => shown(alloc, paths.get(*file)?.as_str()).ok(),
+        CompareFault::Memory | CompareFault::Write => None,
+    }
+}
+
+// Writes that a file of a directory was not read, and gives the exit status.
+fn refuse_one<T: Eprint>(alloc: Global, unread: &Unread, told: &T) -> ExitCode
+    ensures { exit_status_in result ≡ 1 }
+{
+    let path = match unread {
+        Unread::Memory(path) | Unread::Unreadable(path) => shown(alloc, *path),
+    };
+    match (path, unread) {
+        (Ok(path), Unread::Unreadable(_)) => {
+            refuse_unread(told, &Unread::Unreadable(path.as_str()))
+        }
+        (Ok(path), Unread::Memory(_)) => refuse_unread(told, &Unread::Memory(path.as_str())),
+        (Err(_), _) => refuse_unread(told, &Unread::Memory("the directory")),
+    }
+}
+
+// Reads two receipts, and compares them.
+fn compare_two<W: Write, T: Eprint, H: RandomSource + Files + AllocGlobal>(
+    rt: &H,
+    alloc: Global,
+    lists: &Published,
+    outcome: &Published,
+    two: &Two,
+    writer: &mut W,
+    told: &T,
+) -> ExitCode
+    ensures { EndsServed (AnswersPair lists.now outcome.now
+        (W.contents writer.old) (W.contents writer.new)) compare_status_of
+        (W.contents writer.old) (W.contents writer.new) (exit_status_in result) }
+{
+    let resident = match load_path(rt, two.resident) {
+        Ok(resident) => resident,
+        Err(unread) => return refuse_unread(told, &unread),
+    };
+    let programme = match load_path(rt, two.programme) {
+        Ok(programme) => programme,
+        Err(unread) => return refuse_unread(told, &unread),
+    };
+    let (one, other) = (resident.as_slice(), programme.as_slice());
+    let answer = serve_pair(rt, alloc, lists, outcome, one, other, writer);
+    if let Err(fault) = &answer {
+        let path = match fault {
+            CompareFault::Wrong(0, _) => Some(two.resident),
+            CompareFault::Wrong(_, _) => Some(two.programme),
+            CompareFault::Memory | CompareFault::Write => None,
+        };
+        tell(told, path, fault);
+    }
+    ExitCode::from(compare_status(&answer))
+}
+
+// Reads the receipts of a directory, and compares them.
+fn compare_all<W: Write, T: Eprint, H: RandomSource + Files + AllocGlobal>(
+    rt: &H,
+    alloc: Global,
+    lists: &Published,
+    outcome: &Published,
+    directory: &str,
+    writer: &mut W,
+    told: &T,
+) -> ExitCode
+    ensures { EndsServed (AnswersFolder lists.now outcome.now
+        (W.contents writer.old) (W.contents writer.new)) compare_status_of
+        (W.contents writer.old) (W.contents writer.new) (exit_status_in result) }
+{
+    let paths = match paths_in(rt, alloc, directory) {
+        Ok(paths) => paths,
+        Err(unread) => return refuse_unread(told, &unread),
+    };
+    let files = match load_all(rt, alloc, paths.as_slice()) {
+        Ok(files) => files,
+        Err(unread) => return refuse_one(alloc, &unread, told),
+    };
+    let answer = serve_pairs(rt, alloc, lists, outcome, files.as_slice(), writer);
+    if let Err(fault) = &answer {
+        match path_at(alloc, paths.as_slice(), fault) {
+            Some(path) => tell(told, Some(path.as_str()), fault),
+            None => tell(told, None, fault),
+        }
+    }
+    ExitCode::from(compare_status(&answer))
+}
+
+/// Compares two receipts under the roots in these rows, and gives the exit status.
+pub(crate) fn compare_pair<W: Write, T: Eprint, H: RandomSource + Files + AllocGlobal>(
+    rt: &H,
+    alloc: Global,
+    rows: &Rows,
+    two: &Two,
+    writer: &mut W,
+    told: &T,
+) -> ExitCode
+    ensures { EndsPair rows.now (W.contents writer.old) (W.contents writer.new)
+        (exit_status_in result) }
+{
+    let Some(lists) = published_of(rows.lists.as_bytes()) else {
+        return refuse_row(told, "lists");
+    };
+    let Some(outcome) = published_of(rows.outcome.as_bytes()) else {
+        return refuse_row(told, "result");
+    };
+    compare_two(rt, alloc, &lists, &outcome, two, writer, told)
+}
+
+/// Compares the receipts of a directory under the roots in these rows, and gives the exit status.
+pub(crate) fn compare_pairs<W: Write, T: Eprint, H: RandomSource + Files + AllocGlobal>(
+    rt: &H,
+    alloc: Global,
+    rows: &Rows,
+    directory: &str,
+    writer: &mut W,
+    told: &T,
+) -> ExitCode
+    ensures { EndsPairs rows.now (W.contents writer.old) (W.contents writer.new)
+        (exit_status_in result) }
+{
+    let Some(lists) = published_of(rows.lists.as_bytes()) else {
+        return refuse_row(told, "lists");
+    };
+    let Some(outcome) = published_of(rows.outcome.as_bytes()) else {
+        return refuse_row(told, "result");
+    };
+    compare_all(rt, alloc, &lists, &outcome, directory, writer, told)
+}
