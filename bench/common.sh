@@ -4,6 +4,31 @@ rt=$(command -v rt || echo /opt/rattle/bin/rt)
 registry=/usr/share/cargo/registry
 machine="$(awk -F ': ' '/^model name/ { print $2; exit }' /proc/cpuinfo), $(nproc) processors"
 
+# figures FILE BUILT: prints the figures on standard input below a line that says of which commit of crates/ they are, of which
+# day, of which builds, proved or unproved, of which machine, and how many processes ran or waited on it in the last 15 minutes. With
+# WRITE set it writes them to FILE, beside the benchmark.
+figures() {
+    local rows
+    rows=$(cat)
+    if ! git -C "$top" diff --quiet HEAD -- crates; then
+        echo "crates/ is no commit's, so no figures are written" >&2
+        return 1
+    fi
+    printf 'measured,%s,%s,%s,"%s",%s\n%s\n' "$(git -C "$top" log -1 --format=%h -- crates)" "$(date +%F)" "$2" "$machine" \
+        "$(cut -d ' ' -f 3 /proc/loadavg)" "$rows" | tee ${WRITE:+"$here/$1"}
+}
+
+# built_as PROGRAM: how it was built, by where it lies
+built_as() {
+    case $1 in */crates/*/out/*) echo proved ;; *) echo unproved ;; esac
+}
+
+# count WORD..: the instructions of a run
+count() {
+    valgrind --tool=cachegrind --cache-sim=no --cachegrind-out-file=/dev/null "$@" 2>&1 >/dev/null |
+        awk '/I *refs/ { gsub(",", "", $NF); print $NF }'
+}
+
 # missing PACKAGE COMMAND..: installs Debian's package where the command fails
 missing() {
     local package=$1
@@ -52,17 +77,24 @@ rust_program() {
     } >"$folder/Cargo.toml"
 }
 
-# rattle_side FOLDER PROGRAM SOURCE CRATE..: builds and runs a Rattle program once, in a repository of its own that has these
-# crates as they lie here, with what is built of them. Its proofs, where it has some, lie beside the source under another name,
-# so that no gate takes them for a crate's.
+# with_below CRATE..: these crates of this repository, and those of it that they stand on
+with_below() {
+    # crates.txt has the lowest first.
+    tac "$top/crates.txt" | awk -F '[: ]+' -v given="$*" '
+        BEGIN { count = split(given, names, " "); for (i = 1; i <= count; i++) wanted[names[i]] }
+        !/^#/ && $1 in wanted { print $1; for (i = 2; i <= NF; i++) wanted[$i] }' | tac
+}
+
+# rattle_side FOLDER PROGRAM SOURCE CRATE..: proves and builds a Rattle program, in a repository of its own that has these crates
+# as they lie here, with what is built of them. Its proofs, where it has some, lie beside the source under another name, so that no
+# gate takes them for a crate's. With UNPROVED set it is built unproved, in two minutes. `built` says which.
 rattle_side() {
     local folder=$1 program=$2 source=$3 crate part
     shift 3
     mkdir -p "$folder/crates/$program/src"
     cp "$top/HANDLES" "$folder/"
     echo "$program: $*" >"$folder/crates.txt"
-    for crate in "$@"; do
-        [ -d "$top/crates/$crate" ] || continue
+    for crate in $(with_below "$@"); do
         grep "^$crate:" "$top/crates.txt" >>"$folder/crates.txt"
         mkdir -p "$folder/crates/$crate"
         for part in src specs proofs out; do
@@ -76,5 +108,13 @@ rattle_side() {
         cp -r "$(dirname "$source")/proofs" "$folder/crates/$program/"
         find "$folder/crates/$program/proofs" -name '*.answers' -exec sh -c 'mv "$1" "${1%.answers}.antt"' _ {} \;
     fi
+    if [ -n "${UNPROVED:-}" ]; then
+        built=unproved
+        mkdir -p "$folder/crates/$program/out"
+        "$top/tools/unproved" "$folder" "$folder/crates/$program/out/$program" "$program" --speed
+        return
+    fi
+    # shellcheck disable=SC2034
+    built=proved
     (cd "$folder/crates/$program" && "$rt" run </dev/null) >"$folder/log" 2>&1 || { tail -40 "$folder/log" >&2; return 1; }
 }

@@ -104,6 +104,12 @@ class Table(NamedTuple):
         return sum(it.worked for it in self.rows if not it.crate)
 
 
+def number(count: int) -> str:
+    """A small number as a word."""
+    words = ("no", "one", "two", "three", "four", "five", "six", "seven", "eight")
+    return words[count] if count < len(words) else str(count)
+
+
 def write(path: str, table: Table) -> None:
     with open(path, "w", newline="") as file:
         out = csv.writer(file, lineterminator="\n")
@@ -120,3 +126,10 @@ def read(path: str) -> Table:
         raise ValueError(f"{path} is no table of a run")
     _, words, day, processors, minutes = rows[0]
     return Table(words, day, int(processors), float(minutes), tuple(Row(it[0], it[1], int(it[2]), float(it[3]), float(it[4])) for it in rows[1:]))
+
+
+def told(path: str) -> str:
+    """How long the run of a table took, in a sentence."""
+    run = read(path)
+    return (f"`{run.words}` took {run.minutes:.0f} minutes on {number(run.processors)} processors on {run.day}, "
+            f"and {run.worked:.0f} minutes of processor time.")

@@ -12,10 +12,11 @@ if words == ["long-names"]:
 else:
     programmes = [f"p{p}" for p in range(PROGRAMMES)]
     residents = [f"r{r}" for r in range(RESIDENTS)]
-listed = programmes if words == ["mutual"] else []
+listed = "".join(f",{it}" for it in programmes) if words == ["mutual"] else ""
+everybody = "".join(f",{it}" for it in residents)
 for programme in programmes:
-    print("Q", programme, 10, sep=",")
+    print(f"Q,{programme},10")
 for programme in programmes:
-    print("P", programme, *residents, sep=",")
+    print(f"P,{programme}{everybody}")
 for resident in residents:
-    print("R", resident, *listed, sep=",")
+    print(f"R,{resident}{listed}")

@@ -33,9 +33,8 @@ def market(name, programmes, residents):
 write("everybody", [2000] * 10, [range(20000)] * 10, [range(10)] * 20000)
 for pairs in (25000, 50000, 100000, 200000):
     market(f"market-{pairs}", pairs // 100, pairs // 10)
-# Each of a hundred residents takes each of 2,000 programmes for a better one, if they come by number or against it.
+# Each of a hundred residents takes each of 2,000 programmes for a better one, if they come by number.
 write("ladder", [1] * 2000, [range(100)] * 2000, [range(1999, -1, -1)] * 100)
-write("ladder-down", [1] * 2000, [range(100)] * 2000, [range(2000)] * 100)
 # Long lists on both sides, ranked against one another.
 write("reversed", [1] * 447, [range(447)] * 447, [range(446, -1, -1)] * 447)
 # One free programme at a time: each offer displaces a programme, which offers next. 18,000 residents who list nobody come first.

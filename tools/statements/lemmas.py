@@ -1,5 +1,6 @@
 """The map of a crate's files of lemmas: one line on each, from the comment that it begins with; and what specs/ defines."""
 import glob
+import itertools
 import os
 import re
 from typing import List
@@ -10,8 +11,7 @@ from .marked import cell
 
 def heading(lines: List[str]) -> str:
     """The comment that a file begins with, or nothing."""
-    end = next((at for at, line in enumerate(lines) if not line.startswith("--")), len(lines))
-    return " ".join(it.strip().lstrip("-").strip() for it in lines[:end])
+    return " ".join(it.strip().lstrip("-").strip() for it in itertools.takewhile(lambda line: line.startswith("--"), lines))
 
 
 def modules_of(folder: str) -> List[str]:

@@ -53,7 +53,7 @@ RECIPES: Dict[str, Recipe] = {
 # Files that are searched, and pages that are made of them or that tell what once was.
 SEARCHED = (".antt", ".rt", ".edit", ".py", ".md", ".csv", ".plants", ".rs", ".txt")
 LEFT_OUT = ("docs/statement.md", "docs/decisions/", "CONTRIBUTING.md", "CHANGELOG.md", "tools/statements/", "tests/docs/")
-MADE = {".git", ".build", ".bench", "dist", "out", "__pycache__"}
+SKIPPED_FOLDERS = {".git", ".build", ".bench", "dist", "out", "__pycache__"}
 IN_CRATES = ("specs", "src", "proofs", "must-fail")
 AFTER = ("tests", "bench", "python", "examples", "tools", "docs")
 
@@ -65,7 +65,7 @@ def crates_of(top: str) -> List[str]:
 
 def sources(top: str) -> Iterator[str]:
     for folder, folders, names in os.walk(top):
-        folders[:] = sorted(set(folders) - MADE)
+        folders[:] = sorted(set(folders) - SKIPPED_FOLDERS)
         for name in sorted(names):
             path = os.path.relpath(f"{folder}/{name}", top)
             is_script = "." not in name and path.startswith(("tests/", "bench/", "tools/"))

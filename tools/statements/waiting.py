@@ -4,7 +4,7 @@ import textwrap
 from typing import Dict, List
 
 from .antt import Item, Missing, Walk, comment_above, tree
-from .naming import WIDTH
+from .naming import WIDTH, packed as filled
 from .repo import File, Repo
 from .rust import bare, body_of, end_of, pieces
 
@@ -67,7 +67,8 @@ def call(file: File, word: str) -> Item:
         heads = [generics + sign.strip(), f"    {owner} {{"]
     else:
         heads = [head]
-    item.text = [*heads, *wrapped(item.sentence), *text, "}"] if head else [*wrapped(item.sentence), *text]
+    lines = [*wrapped(item.sentence), *filled(text)]
+    item.text = [*heads, *lines, "}"] if head else lines
     return item
 
 
@@ -82,11 +83,11 @@ def promises(repo: Repo) -> List[Item]:
     return found
 
 
-def meanings(top: str) -> List[str]:
-    """A table of the names that the promises use besides."""
+def meanings(top: str) -> str:
+    """The names that the promises use besides, each with its meaning."""
     with open(f"{top}/tools/statements/waiting.txt", encoding="utf-8") as file:
         rows = [line.partition(" | ") for line in file.read().strip().split("\n\n")[1].split("\n")]
-    return ["| Name | What it is |", "|---|---|", *(f"| `{name}` | {meaning} |" for name, _, meaning in rows)]
+    return f"Besides, these promises name types. {' '.join(f'`{name}`: {meaning}.' for name, _, meaning in rows)}"
 
 
 def wrapped(sentence: List[str]) -> List[str]:
@@ -96,18 +97,25 @@ def wrapped(sentence: List[str]) -> List[str]:
     return textwrap.wrap(words, WIDTH, initial_indent=f"{indent}/// ", subsequent_indent=f"{indent}/// ")
 
 
+def packed(text: List[str]) -> List[str]:
+    """A type of several lines, with as many fields on a line as it has room for."""
+    if len(text) < 3:
+        return text
+    out = [text[0]]
+    for field in [it.strip() for it in text[1:-1]]:
+        out = [*out[:-1], f"{out[-1]} {field}"] if len(out[-1]) + len(field) + 3 <= WIDTH else [*out, f"    {field}"]
+    return [*out[:-1], f"{out[-1].rstrip(',')} }}"]
+
+
 def shown(found: List[Item]) -> List[str]:
-    """A block for the tokens of each file, and one for the calls of each type."""
-    out: List[str] = []
+    """The tokens of each file, and then the calls of its types."""
+    out: List[str] = ["```"]
     for path in dict.fromkeys(it.file for it in found):
-        tokens = [[*wrapped(it.sentence), *it.text] for it in found if it.file == path and it.name in TOKENS.get(path, [])]
-        blocks = [[line for it in tokens for line in (*it, "")][:-1]] if tokens else []
-        for it in found:
-            if it.file == path and it.name in CALLS.get(path, []):
-                if blocks and it.text[-1] == "}" and blocks[-1][0] == it.text[0]:
-                    blocks[-1][-1:] = ["", *it.text[1:]]
-                else:
-                    blocks.append(list(it.text))
-        for block in blocks:
-            out += ["", f"`crates/{path}`:", "", "```rust", *block, "```"]
-    return out
+        out.append(f"-- crates/{path}")
+        here, head = [it for it in found if it.file == path], ""
+        for it in (one for one in here if one.name in TOKENS.get(path, [])):
+            out += [*wrapped(it.sentence), *packed(it.text)]
+        for it in (one for one in here if one.name in CALLS.get(path, [])):
+            out = [*out[:-1], *it.text[1:]] if it.text[0] == head else [*out, *it.text]
+            head = it.text[0] if it.text[-1] == "}" else ""
+    return [*out, "```"]
