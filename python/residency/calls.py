@@ -5,9 +5,10 @@ from typing import TYPE_CHECKING, Dict, Mapping, Optional, Tuple, Union
 
 from .answers import cut, read_audit, read_replay, rows_of
 from .dictionaries import dictionary, told_name
-from .docket import read_docket, sheet_rows
+from .docket import Docket, read_docket, sheet_rows
 from .errors import DocketFault, MarketFault, NotValid, UnknownStatus
 from .ordered import as_name, is_nothing, wanted, whole
+from .passes import NATIONAL, STANDARD
 from .program import DEFAULT_TIMEOUT, run_program
 from .records import records
 from .results import Audit, Match, Replay, Why
@@ -33,7 +34,7 @@ def match(market: Market, workers: int = 2, capacity: Optional[int] = None, jour
     if not (isinstance(journal, bool) or isinstance(journal, str) and journal == "by worker"):
         raise ValueError(f"{journal!r} is no form of a journal: False, True or 'by worker'")
     words += ["--journal" if journal is True else "--journal-by-worker"] if journal else []
-    status, answer = run_program("residency", words, market.docket(), timeout)
+    status, answer = run_program(market.program("residency"), words, market.docket(), timeout)
     try:
         found = read_match(market, *cut(answer))
     except DocketFault as fault:
@@ -63,8 +64,10 @@ def read_match(market: Market, sheet: bytes, journal: bytes = b"") -> Match:
     the docket's first.
     """
     wanted("a journal is bytes", bytes, journal)
-    _refuse_others(sheet, _SHEET, market.docket())
-    places = read_docket(market.docket() + sheet).sheet
+    places = _plain_places(market.in_docket_names(), wanted("a sheet is bytes", bytes, sheet))
+    if places is None:
+        _refuse_others(sheet, _SHEET, market.docket())
+        places = read_docket(market.docket() + sheet, NATIONAL if market.is_national else STANDARD).sheet
     if places is None:
         raise DocketFault(0, "no sheet in the docket")
     names = market.names
@@ -76,6 +79,13 @@ def read_match(market: Market, sheet: bytes, journal: bytes = b"") -> Match:
         if name is not None:
             filled[name] += 1
     return Match(called, filled, dict(market.quotas), sheet, journal)
+
+
+def _plain_places(docket: Docket, sheet: bytes) -> Optional[Mapping[str, Optional[str]]]:
+    """The places that a sheet says, where it is this docket's as the program writes it, to the byte; None for any other."""
+    told = {row[1]: row[2] for row in rows_of(sheet) if row[0] == "M" and len(row) == 3}
+    places = {name: told.get(name) for name in docket.resident_lists}
+    return places if {*told.values()} <= docket.quotas.keys() and sheet_rows(docket, places) == sheet else None
 
 
 def _refuse_others(rows: bytes, own: Tuple[str, ...], before: bytes) -> None:
@@ -107,7 +117,7 @@ def audit(market: Market, places: Places, timeout: float = DEFAULT_TIMEOUT) -> A
     resident or has a name that no member has. Raises as `match`.
     """
     _test_market(market)
-    status, answer = run_program("residency", ["audit"], market.docket() + _sheet(market, places), timeout)
+    status, answer = run_program(market.program("residency"), ["audit"], market.docket() + _sheet(market, places), timeout)
     try:
         return read_audit(status, answer, market.names.name)
     except (IndexError, KeyError, ValueError) as error:
@@ -140,7 +150,7 @@ def replay(market: Market, journal: Union[Match, bytes], places: Optional[Places
     given = market.docket() + (b"" if places is None else _sheet(market, places))
     # What `residency match --journal` writes is a sheet with its journal, and may be given as it is.
     _refuse_others(rows, _JOURNAL if places is not None else _SHEET + _JOURNAL, given)
-    status, answer = run_program("residency", ["replay"], given + rows, timeout)
+    status, answer = run_program(market.program("residency"), ["replay"], given + rows, timeout)
     try:
         return read_replay(status, answer, market.names.name)
     except (IndexError, KeyError, ValueError) as error:
@@ -174,7 +184,7 @@ def why_all(market: Market, places: Places, timeout: float = DEFAULT_TIMEOUT) ->
 
 def _why_all(market: Market, data: bytes, timeout: float) -> Dict[Tuple[str, str], Why]:
     """The table of `why --all`, by resident and programme in the caller's names."""
-    status, answer = run_program("why", ["--all"], data, timeout)
+    status, answer = run_program(market.program("why"), ["--all"], data, timeout)
     rows = rows_of(answer)
     names = market.names
     told: Dict[Tuple[str, str], Why] = {}
@@ -199,7 +209,7 @@ def _number(cell: str) -> Optional[int]:
 def _why_unlisted(market: Market, data: bytes, resident: str, programme: str, timeout: float) -> Why:
     """The program's sentence on a programme that isn't on the list, which no table has, with the caller's name of it."""
     made = market.names.docket_name("P", programme)
-    status, answer = run_program("why", [market.names.docket_name("R", resident), made], data, timeout)
+    status, answer = run_program(market.program("why"), [market.names.docket_name("R", resident), made], data, timeout)
     said = answer.decode("utf-8", "replace").strip()
     if status != 0 or not said.startswith(f"{made}: "):
         raise UnknownStatus(status, "an answer without a sentence")

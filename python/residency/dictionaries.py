@@ -6,10 +6,10 @@ from typing import Any, Dict, List, Mapping, Sequence, Tuple
 from .errors import MarketFault
 from .near import MOST_NEAR, NearNames
 from .ordered import NotRead, as_dictionary, as_list, as_name, as_names, is_nothing, whole
-from .passes import MOST_PAIRS, MOST_PLACES, MOST_PROGRAMMES, MOST_RESIDENTS
+from .passes import MOST_PLACES, Most
 from .text import shown
 
-__all__ = ["Reader", "dictionary", "limits", "told_name", "withdrawals"]
+__all__ = ["Reader", "dictionary", "limits", "sizes", "told_name", "withdrawals"]
 
 
 def told_name(name: object) -> str:
@@ -110,6 +110,8 @@ class Reader:
     def _choices(self, who: str, owner: object, listed: Sequence[object]) -> None:
         other = "resident" if who == "programme" else "programme"
         seen = set()
+        if {*map(type, listed)} <= {str} and len({*listed}) == len(listed) and {*listed} <= self._members[other].keys():
+            return
         for place, name in enumerate(listed, 1):
             if not isinstance(name, str) or name not in self._members[other]:
                 # A programme that has a list and no places is told once, at its list.
@@ -131,18 +133,17 @@ class Reader:
         return tuple(dict.fromkeys(str(name) for name in given))
 
 
-def limits(quotas: Mapping[str, int], programme_lists: Mapping[str, Sequence[str]], resident_lists: Mapping[str, Sequence[str]],
-           withdrawn_programmes: Sequence[str], withdrawn_residents: Sequence[str]) -> List[str]:
+def limits(found: Most, most: Most) -> List[str]:
     """What is more of a market than is matched at once."""
-    told: List[str] = []
-    if len(quotas) > MOST_PROGRAMMES:
-        told.append(f"{len(quotas)} programmes, of at most {MOST_PROGRAMMES}")
-    if len(resident_lists) > MOST_RESIDENTS:
-        told.append(f"{len(resident_lists)} residents, of at most {MOST_RESIDENTS}")
+    named = zip(found[:3], most, ("programmes", "residents", "acceptable pairs"))
+    return [f"{count} {what}, of at most {limit}" for count, limit, what in named if count > limit]
+
+
+def sizes(quotas: Mapping[str, int], programme_lists: Mapping[str, Sequence[str]], resident_lists: Mapping[str, Sequence[str]],
+          withdrawn_programmes: Sequence[str], withdrawn_residents: Sequence[str]) -> Most:
+    """How many members and acceptable pairs a market has."""
     gone, left = set(withdrawn_residents), set(withdrawn_programmes)
     ranked = {name: set(listed) for name, listed in resident_lists.items() if name not in gone}
     pairs = sum(programme in ranked.get(name, ()) for programme, listed in programme_lists.items() if programme not in left
                 for name in listed)
-    if pairs > MOST_PAIRS:
-        told.append(f"{pairs} acceptable pairs, of at most {MOST_PAIRS}")
-    return told
+    return Most(len(quotas), len(resident_lists), pairs, 0)

@@ -18,6 +18,9 @@ from .text import BadQuotes, decode, rows
 
 # What a spreadsheet takes for the start of a formula; the last four are the same signs in full width.
 _FORMULA = ("=", "+", "-", "@", "\t", "\r", "\n", "\uff1d", "\uff0b", "\uff0d", "\uff20")
+_MARKED = tuple("'" + sign for sign in ("'", *_FORMULA))
+# A name without one of these is a cell as it is.
+_ANY = re.compile(f"[{re.escape(''.join(_FORMULA))}']")
 _SIGN = "([=+\\-@\uff1d\uff0b\uff0d\uff20])"
 # Where a formula may begin within a name, since a spreadsheet that parts cells by another sign than the file does begins a
 # cell there, after any spaces and quotes. A space or a colon parts cells only where somebody chooses so, and before a sign
@@ -26,7 +29,7 @@ _WITHIN = re.compile(f"((?:^[\\s\"]|[,;|\\t\\r\\n])[\\s\"]*)('*){_SIGN}|([ :]\"*
 
 
 def _needs_apostrophe(name: str) -> bool:
-    return name.startswith(_FORMULA) or name.startswith(tuple("'" + sign for sign in ("'", *_FORMULA)))
+    return name.startswith(_FORMULA) or name.startswith(_MARKED)
 
 
 def _places(found: Match[str]) -> Tuple[str, str, str]:
@@ -55,7 +58,9 @@ def to_cell(name: str) -> str:
     >>> [to_cell(name) for name in ("=SUM(A1)", "-", "'t Hooft", "''=x", "Zoë", "Kim;=2+3;", "North - East")]
     ["'=SUM(A1)", "'-", "'t Hooft", "'''=x", 'Zoë', "Kim;'=2+3;", 'North - East']
     """
-    inside = _WITHIN.sub(_more, wanted("a name is a text", str, name))
+    if not _ANY.search(wanted("a name is a text", str, name)):
+        return name
+    inside = _WITHIN.sub(_more, name)
     return "'" + inside if _needs_apostrophe(inside) else inside
 
 

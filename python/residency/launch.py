@@ -16,8 +16,8 @@ def main() -> int:
     name = os.path.basename(os.path.realpath(sys.argv[0]))
     program = Path(__file__).resolve().parent / WITHIN / name
     # Python ignores these, and the program is to meet them as it does when it is started by itself.
-    for each in (signal.SIGPIPE, signal.SIGXFSZ):
-        signal.signal(each, signal.SIG_DFL)
+    for ignored in (signal.SIGPIPE, signal.SIGXFSZ):
+        signal.signal(ignored, signal.SIG_DFL)
     try:
         os.execve(program, [name, *sys.argv[1:]], environment())
     except OSError as error:

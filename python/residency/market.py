@@ -4,10 +4,11 @@ from __future__ import annotations
 from typing import Dict, Iterable, Mapping, Optional, Sequence, Tuple, Union
 
 from . import calls
-from .dictionaries import Reader, limits, told_name, withdrawals
+from .dictionaries import Reader, limits, sizes, told_name, withdrawals
 from .docket import Docket, read_docket, write_docket
 from .errors import KeyFault, MarketFault, OtherOptimum
 from .names import Member, Names
+from .passes import NATIONAL, STANDARD, Most
 from .program import DEFAULT_TIMEOUT
 from .results import Match
 from .tables import Cell, Read, read_long, read_wide
@@ -29,7 +30,8 @@ class Market:
     ranks nobody. A list is a list, a tuple, an iterator, a Series of pandas or an array of numpy; a dictionary may be a
     Series, too. MarketFault tells everything that is wrong at once: what has no order (a set, a mapping, a text) in a
     list's place, a name that nobody has, a name listed twice, a number of places that is missing or isn't a whole one
-    from 0 to 10,000, and more members or pairs than are matched at once.
+    from 0 to 10,000, and more members or pairs than are matched at once. `most` may be the national limits; a market over
+    the standard ones `is_national`, and the programs of the national limits answer for it.
 
     >>> market = Market.from_dictionaries({"Zoë Weiß": ["Köln", "Łódź"], "Ana": ["Köln"]},
     ...                                   {"Köln": ["Ana", "Zoë Weiß"], "Łódź": ["Zoë Weiß"]}, {"Köln": 1, "Łódź": 2})
@@ -49,19 +51,21 @@ class Market:
 
     def __init__(self, quotas: Mapping[str, int], programme_lists: Mapping[str, Sequence[str]],
                  resident_lists: Mapping[str, Sequence[str]], withdrawn_programmes: Iterable[str] = (),
-                 withdrawn_residents: Iterable[str] = (), names: Optional[Names] = None) -> None:
+                 withdrawn_residents: Iterable[str] = (), names: Optional[Names] = None, most: Most = STANDARD) -> None:
         read = Reader(quotas, programme_lists, resident_lists)
         self.quotas: Dict[str, int] = read.quotas()
         self.programme_lists = read.lists("programme")
         self.resident_lists = read.lists("resident")
         self.withdrawn_programmes = read.withdrawn("programme", withdrawn_programmes)
         self.withdrawn_residents = read.withdrawn("resident", withdrawn_residents)
-        told = read.told or limits(self.quotas, self.programme_lists, self.resident_lists, self.withdrawn_programmes,
-                                   self.withdrawn_residents)
-        if told:
-            raise MarketFault(told)
+        if read.told:
+            raise MarketFault(read.told)
+        found = sizes(self.quotas, self.programme_lists, self.resident_lists, self.withdrawn_programmes, self.withdrawn_residents)
+        if limits(found, most):
+            raise MarketFault(limits(found, most))
+        self.is_national = bool(limits(found, STANDARD))
         self.names: Names = Names.of(self.quotas, self.resident_lists) if names is None else names
-        self._docket = self._in_docket_names()
+        self._docket, self._bytes = self._in_docket_names(), b""
 
     def _in_docket_names(self) -> Docket:
         programmes = {name: self._made("P", name) for name in self.quotas}
@@ -121,13 +125,13 @@ class Market:
         return cls(read.quotas, read.programme_lists, read.resident_lists, names=read.names)
 
     @classmethod
-    def from_docket(cls, data: bytes, names: Optional[Names] = None) -> Market:
+    def from_docket(cls, data: bytes, names: Optional[Names] = None, most: Most = STANDARD) -> Market:
         """From a docket's bytes and, where there is one, its key; a sheet or a journal in the docket isn't used.
 
         DocketFault for the docket's first fault; KeyFault where the key lacks a member. Without a key the docket's names
         are the caller's.
         """
-        docket = read_docket(data)
+        docket = read_docket(data, most)
         if names is None:
             names = Names([Member("P", name, name) for name in docket.quotas] +
                           [Member("R", name, name) for name in docket.resident_lists])
@@ -141,7 +145,7 @@ class Market:
         return cls({programme[name]: quota for name, quota in docket.quotas.items()},
                    _renamed(docket.programme_lists, programme, resident), _renamed(docket.resident_lists, resident, programme),
                    [programme[name] for name in docket.quotas if name in docket.withdrawn_programmes],
-                   [resident[name] for name in docket.resident_lists if name in docket.withdrawn_residents], names)
+                   [resident[name] for name in docket.resident_lists if name in docket.withdrawn_residents], names, most)
 
     def __repr__(self) -> str:
         gone = len(self.withdrawn_programmes) + len(self.withdrawn_residents)
@@ -150,7 +154,8 @@ class Market:
 
     def docket(self) -> bytes:
         """The docket's bytes, in the docket's names: quotas, lists and withdrawals; the same market gives the same bytes."""
-        return write_docket(self._docket)
+        self._bytes = self._bytes or write_docket(self._docket)
+        return self._bytes
 
     def in_docket_names(self) -> Docket:
         """What the docket says, in its names."""
@@ -160,7 +165,11 @@ class Market:
         """This market with these members withdrawn besides; MarketFault for a name that no member has, or for no list."""
         gone, left = withdrawals("programme", programmes), withdrawals("resident", residents)
         return Market(self.quotas, self.programme_lists, self.resident_lists, (*self.withdrawn_programmes, *gone),
-                      (*self.withdrawn_residents, *left), self.names)
+                      (*self.withdrawn_residents, *left), self.names, NATIONAL if self.is_national else STANDARD)
+
+    def program(self, name: str) -> str:
+        """The program that answers for a market of this size: this one, or the one of the national limits."""
+        return {"residency": "national", "why": "why-national"}[name] if self.is_national else name
 
     def solve(self, optimal: str = "programmes", timeout: float = DEFAULT_TIMEOUT) -> Match:
         """The match, as `match` gives it: the programmes' optimum, the one that is answered here.

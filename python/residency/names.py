@@ -61,7 +61,9 @@ def _fit(words: List[str], most: int) -> str:
     if len(words) > most // 2:
         words = words[:most // 4] + words[-(most // 4):]
     room = most - (len(words) - 1)
-    cap = max(size for size in range(1, most + 1) if sum(min(len(word), size) for word in words) <= room)
+    cap = room // len(words)
+    while cap < most and sum(min(len(word), cap + 1) for word in words) <= room:
+        cap += 1
     spare = room - sum(min(len(word), cap) for word in words)
     cut = []
     for word in words:

@@ -37,7 +37,7 @@ _TUNABLES = "glibc.malloc.hugetlb=1:glibc.malloc.mmap_threshold=33554432"
 
 def _files(name: str) -> Tuple[str, str]:
     """Of a program, which is called `residency` or by the word after `residency-`, its crate and its file in a release."""
-    return ("residency_cli", "residency") if name == "residency" else (f"residency_{name}", f"residency-{name}")
+    return ("residency_cli", "residency") if name == "residency" else (f"residency_{name.replace('-', '_')}", f"residency-{name}")
 
 
 def _in_folder(name: str, folder: Path) -> Iterator[Path]:

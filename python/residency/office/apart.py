@@ -26,7 +26,7 @@ from .languages import sections
 
 Progress = Callable[[str], None]
 # A step that may be asked for: what does it, by the name of a function of `steps`.
-STEPS = ("read", "looked_at", "linted", "reading_of", "verified")
+STEPS = ("read", "looked_at", "seen", "linted", "reading_of", "verified")
 # The classes of which an answer may be.
 KNOWN = {module: classes.split(", ") for module, classes in sections("answers.txt")["KNOWN"].items()}
 PROGRESS, DONE, FAILED = "progress", "done", "failed"

@@ -3,20 +3,23 @@ import argparse
 import json
 import os
 import sys
+import threading
 from dataclasses import replace
 from datetime import date
+from pathlib import Path
 from typing import Callable, Dict, List, Optional, Sequence, Tuple
 
 from ..errors import DocketFault, MarketFault, ResidencyError
 from ..market import Market
 from ..text import decode
 from . import changed, compare, folder, national, rounds, running, sealing, settings, sheets, steps, stopping, writing
+from .apart import Progress
 from .cells import DELIMITERS, known_delimiter
 from .faults import MOST_OF_PATH, MOST_SHOWN, Faults, FaultsError, OfficeError, column_letters, counted, shown
 from .headings import Words
 from .letters import OTHERS, PROGRAMME, Templates, checked_templates
 from .line import parser
-from .outcome import UNMATCHED, Standing
+from .outcome import UNMATCHED, Details, Standing
 from .phrases import Language, languages, read_phrases
 from .running import Run, Wishes
 from .sentences import as_dict, cause, errors_as_dicts, how, line_of, note, report, said_by, said_otherwise
@@ -148,12 +151,17 @@ def by_table(given: Sequence[str], known: Callable[[str], object]) -> Dict[str, 
     return said
 
 
-def read_tables(programmes: str, residents: str, chosen: Settings) -> Read:
-    """Both tables and their market; TablesError with all faults."""
+def files_of(programmes: str, residents: str, chosen: Settings) -> Tuple[Given, Given]:
+    """The files of both tables. OfficeError where they are one."""
     if programmes == residents and not chosen.sheet or os.path.exists(programmes) and os.path.exists(residents) \
             and not chosen.sheet and os.path.samefile(programmes, residents):
         raise OfficeError("words.one-twice", 2, programmes)
-    read = steps.check(Given(programmes, bytes_of(programmes)), Given(residents, bytes_of(residents)), chosen)
+    return Given(programmes, bytes_of(programmes)), Given(residents, bytes_of(residents))
+
+
+def read_tables(programmes: str, residents: str, chosen: Settings) -> Read:
+    """Both tables and their market; TablesError with all faults."""
+    read = steps.check(*files_of(programmes, residents, chosen), chosen)
     if read.market is None:
         raise TablesError(read)
     return read
@@ -170,7 +178,7 @@ def describe(tables: Sequence[Table], market: Market) -> List[str]:
     programmes, residents = tables
     lines = [f"{how(programmes)}; {counted(len(market.quotas), 'programme')}, {counted(sum(market.quotas.values()), 'place')}",
              f"{how(residents)}; {counted(len(market.resident_lists), 'resident')}"]
-    return lines + [note(one) for table in tables for one in table.notes]
+    return lines + [note(one) for table in tables for one in table.notes] + [national.NOTE] * market.is_national
 
 
 def read_as_json(read: Read) -> str:
@@ -219,12 +227,17 @@ def settings_command(given: argparse.Namespace) -> int:
         faults = [fault for look in looks for fault in look.faults.every()]
         if faults:
             return failed("\n".join([*(line_of(fault) for fault in faults), "nothing was written"]), 3)
-        remarks = {look.table: remarks_of(look, path) for look, path in zip(looks, (given.programmes, given.residents))}
-        for look in looks:
-            take_found(found, look)
+        remarks = taken(found, looks, [given.programmes, given.residents])
     writing.new_file(out, settings.file_text(found, remarks).encode("utf-8"))
     say(f"settings written to {shown(out, MOST_OF_PATH)}")
     return 0
+
+
+def taken(found: Settings, looks: Sequence[Look], paths: Sequence[str]) -> Dict[str, List[str]]:
+    """Takes over what was found of tables, and answers what their settings file says of each besides."""
+    for look in looks:
+        take_found(found, look)
+    return {look.table: remarks_of(look, path) for look, path in zip(looks, paths)}
 
 
 def take_found(found: Settings, look: Look) -> None:
@@ -351,13 +364,7 @@ def template_of(path: Optional[str], columns: Sequence[str]) -> Templates:
 
 def tables_of(given: argparse.Namespace, chosen: Settings, before: Optional[rounds.Before] = None) -> Tuple[Sequence[Table], Market]:
     """Both tables and their market, which fits the round before. TablesError where they are at fault."""
-    read = read_tables(given.programmes, given.residents, chosen)
-    assert read.market is not None
-    if before is not None:
-        read.faults = before.faults(read.market, given.allow_new, read.tables)
-    if len(read.faults):
-        raise TablesError(read)
-    return read.tables, read.market
+    return steps.tables(*files_of(given.programmes, given.residents, chosen), chosen, before, before is not None and given.allow_new)
 
 
 def how_read(tables: Sequence[Table], chosen: Settings) -> Dict[str, object]:
@@ -370,13 +377,20 @@ def how_read(tables: Sequence[Table], chosen: Settings) -> Dict[str, object]:
 def seal_command(given: argparse.Namespace) -> int:
     writing.refuse(given.out)
     chosen = settings_of(given, given.programmes)
-    language = language_of(chosen)
-    wishes = Wishes(chosen.title or language.phrases().say("title"), given.date or date.today(), timeout=given.timeout, language=language)
+    chosen.is_sealed = True
+    language_of(chosen)
     tables, market = tables_of(given, chosen)
-    roots = steps.seal(given.out, market, steps.details_of(tables[1], market), wishes, how_read(tables, chosen))
+    roots = written_seal(given, chosen, tables, market, given.out)
     for line in [*describe(tables, market), sealed(given.out, roots), *published(roots)]:
         say(line)
     return 0
+
+
+def written_seal(given: argparse.Namespace, chosen: Settings, tables: Sequence[Table], market: Market, out: str) -> Roots:
+    """Seals two tables into a new folder."""
+    language = language_of(chosen)
+    wishes = Wishes(chosen.title or language.phrases().say("title"), given.date or date.today(), timeout=given.timeout, language=language)
+    return steps.seal(out, market, steps.details_of(tables[1], market), wishes, how_read(tables, chosen))
 
 
 def run(given: argparse.Namespace) -> int:
@@ -394,11 +408,23 @@ def run(given: argparse.Namespace) -> int:
     chosen = settings_of(given, given.programmes)
     wishes = wishes_of(given, chosen, chosen.title, chosen.kept(), before=before)
     tables, market = tables_of(given, chosen, before)
-    result = steps.match(market, steps.details_of(tables[1], market), wishes.timeout)
-    steps.write(given.out, result, wishes, {**how_read(tables, chosen), **(before.entry if before else {})})
-    for line in describe(tables, market) + told(given.out, result, wishes):
+    lines = describe(tables, market)
+    # What takes minutes says so before it begins, and how far it is.
+    for line in lines if market.is_national else ():
+        complain(line)
+    progress = (lambda step: complain(national.STEPS[step])) if market.is_national else steps.quietly
+    result = written_match(wishes, chosen, tables, market, before, given.out, progress)
+    for line in lines + told(given.out, result, wishes):
         say(line)
     return 0
+
+
+def written_match(wishes: Wishes, chosen: Settings, tables: Sequence[Table], market: Market, before: Optional[rounds.Before], out: str,
+                  progress: Progress = steps.quietly) -> running.Matched:
+    """Matches two tables into a new folder, as the first round or after another."""
+    result = steps.match(market, steps.details_of(tables[1], market), wishes.timeout, progress)
+    steps.write(out, result, wishes, {**how_read(tables, chosen), **(before.entry if before else {})}, progress=progress)
+    return result
 
 
 def run_sealed(given: argparse.Namespace, sealed: running.Kept, before: Optional[rounds.Before]) -> int:
@@ -419,12 +445,19 @@ def run_sealed(given: argparse.Namespace, sealed: running.Kept, before: Optional
         lines, details = describe(tables, market), steps.details_of(tables[1], market)
         manifest = from_of(sealed, settings.values_of(chosen))
     wishes = wishes_of(given, chosen, chosen.title or sealed.title(), details.columns, sealed.language(), before)
-    result = steps.match(sealed.market, details, wishes.timeout)
-    roots = steps.write(given.out, result, wishes, {**manifest, **(before.entry if before else {})}, sealed.secret(), sealed)
-    assert roots is not None
+    result, roots = written_sealed(wishes, sealed, details, manifest, before, given.out)
     for line in lines + told(given.out, result, wishes) + published(roots):
         say(line)
     return 0
+
+
+def written_sealed(wishes: Wishes, sealed: running.Kept, details: Details, manifest: Dict[str, object], before: Optional[rounds.Before], out: str,
+                   progress: Progress = steps.quietly) -> Tuple[running.Matched, Roots]:
+    """Matches what was sealed into a new folder."""
+    result = steps.match(sealed.market, details, wishes.timeout, progress)
+    roots = steps.write(out, result, wishes, {**manifest, **(before.entry if before else {})}, sealed.secret(), sealed, progress=progress)
+    assert roots is not None
+    return result, roots
 
 
 def from_of(kept: running.Kept, said: Optional[Dict[str, Dict[str, object]]] = None) -> Dict[str, object]:
@@ -474,24 +507,23 @@ def withdraw(given: argparse.Namespace) -> int:
     writing.refuse(out)
     programmes, residents, either = ([as_text(name) for name in those] for those in (given.programme, given.resident, given.names))
     done = steps.withdraw(before, programmes, residents, either, given.timeout)
-    if done.matched is None:
-        return withdraw_sealed(given, done, out)
-    chosen = settings_of(given)
-    wishes = replace(wishes_of(given, chosen, chosen.title or before.title(), before.details.columns, before.language()), earlier=before.earlier())
-    roots = steps.write(out, done.matched, wishes, from_of(before), done.secret(), changes=done.changes)
-    for line in [one.line() for one in done.changes] + told(out, done.matched, wishes) + ([] if roots is None else published_anew(roots)):
+    wishes, roots = written_without(given, settings_of(given), done, out)
+    lines = [f"{shown(name)}: withdrawn" for name in done.gone] + ([] if roots is None else [sealed(out, roots)])
+    if done.matched is not None:
+        lines = [one.line() for one in done.changes] + told(out, done.matched, wishes)
+    for line in lines + ([] if roots is None else published_anew(roots)):
         say(line)
     return 0
 
 
-def withdraw_sealed(given: argparse.Namespace, done: steps.Withdrawn, out: str) -> int:
-    """Seals a folder's market anew, with members withdrawn before the match."""
+def written_without(given: argparse.Namespace, chosen: Settings, done: steps.Withdrawn, out: str) -> Tuple[Wishes, Optional[Roots]]:
+    """Writes a folder's match again without who has withdrawn; what was sealed is sealed anew, and where it has no match yet, that is all."""
     kept = done.before
-    wishes = Wishes(kept.title(), given.date or date.today(), timeout=given.timeout, language=language_of(settings_of(given), kept.language()))
-    roots = steps.seal(out, done.market, kept.details, wishes, from_of(kept))
-    for line in [f"{shown(name)}: withdrawn" for name in done.gone] + [sealed(out, roots), *published_anew(roots)]:
-        say(line)
-    return 0
+    if done.matched is None:
+        wishes = Wishes(kept.title(), given.date or date.today(), timeout=given.timeout, language=language_of(chosen, kept.language()))
+        return wishes, steps.seal(out, done.market, kept.details, wishes, from_of(kept))
+    wishes = replace(wishes_of(given, chosen, chosen.title or kept.title(), kept.details.columns, kept.language()), earlier=kept.earlier())
+    return wishes, steps.write(out, done.matched, wishes, from_of(kept), done.secret(), changes=done.changes)
 
 
 def compare_command(given: argparse.Namespace) -> int:
@@ -546,8 +578,7 @@ def verify_command(given: argparse.Namespace) -> int:
     made = None
     if given.tables is not None:
         given.programmes, given.residents = given.tables
-        tables, market = tables_of(given, settings_of(given, start=steps.read_by(given.folder)))
-        made = FromTables(market, steps.details_of(tables[1], market), [table.sha256 for table in tables])
+        made = FromTables.of(*tables_of(given, settings_of(given, start=steps.read_by(given.folder))))
     done = steps.verify(given.folder, given.timeout, published, made, lambda one: say(one.line()), after=given.after)
     say(done.verdict())
     return 4 if done.wrong else 0
@@ -566,10 +597,7 @@ def changes_command(given: argparse.Namespace) -> int:
 def next_command(given: argparse.Namespace) -> int:
     writing.refuse(given.out)
     before = Run(given.folder)
-    tables = rounds.tables_of(before)
-    with folder.new_folder(given.out, private=True) as draft:
-        for name, data in tables.items():
-            draft.write(f"{name}.xlsx", data)
+    rounds.write_tables(before, given.out)
     left, free = sum(len(before.outcome.standing(one)) for one in UNMATCHED), len(before.outcome.unfilled())
     say(f"{counted(free, 'programme')} with free places, {counted(left, 'unmatched resident')}; written to {shown(given.out, MOST_OF_PATH)}")
     return 0
@@ -584,7 +612,37 @@ def auditor_command(given: argparse.Namespace) -> int:
     return 0
 
 
+def desk_command(given: argparse.Namespace) -> int:
+    from .desk.calls import Desk, Said
+    from .desk.server import Server
+
+    with steps.room_for("desk") as room:
+        desk = Desk(room, Path.cwd())
+        if given.folder is not None:
+            desk.open(Said(path=folder.Results(given.folder).at), steps.quietly)
+        server = Server(desk)
+        # All users of a machine see the words of a browser's command line, so that these name a file of this user's alone.
+        start = room / "desk.html"
+        writing.write_new(start, f'<!doctype html><meta http-equiv="refresh" content="0;url={server.address}">\n'.encode("ascii"), writing.PRIVATE)
+        say(f"the desk is open at {server.address}\nit ends by its button, with its window, or by Ctrl-C here; what isn't saved goes with it")
+        sys.stdout.flush()
+        if not given.no_browser:
+            threading.Thread(target=open_browser, args=(start.as_uri(),), daemon=True).start()
+        server.serve()
+    say("the desk is closed")
+    return 0
+
+
+def open_browser(address: str) -> None:
+    """Opens a browser with windows; one of the terminal would take the terminal away."""
+    import webbrowser
+
+    has_screen = {"DISPLAY", "WAYLAND_DISPLAY", "BROWSER"} & {*os.environ} or sys.platform != "linux"
+    if not has_screen or not webbrowser.open(address):
+        complain("no browser was opened: open the address above")
+
+
 DOES: Dict[str, Callable[[argparse.Namespace], int]] = {
     "check": check, "settings": settings_command, "lint": lint_command, "seal": seal_command, "run": run, "withdraw": withdraw, "compare": compare_command, "letters": letters,
-    "next": next_command, "changes": changes_command, "why": why_command, "verify": verify_command, "auditor": auditor_command,
+    "next": next_command, "changes": changes_command, "why": why_command, "verify": verify_command, "auditor": auditor_command, "desk": desk_command,
 }

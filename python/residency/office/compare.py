@@ -38,6 +38,10 @@ class Change:
             return (self.before.name if self.before else ""), self.member.name
         return stood(self.before, phrases), stood(self.now, phrases)
 
+    def cells(self) -> Tuple[str, ...]:
+        """What changed, who it is, and how the member stood and stands."""
+        return english().say(f"change.{self.what}"), called(self.member), *self.both(english())
+
     def line(self) -> str:
         one, words = self.member, english()
         before, now = (shown(said, 300) for said in self.both(words))

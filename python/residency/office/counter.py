@@ -16,12 +16,12 @@ from .who import the_one
 LETTERS = {"unranked": Became.NOT_RANKED, "matched": Became.MATCHED, "better": Became.NOT_NEEDED}
 
 
-def reason(one: Why, resident: Resident, phrases: Phrases, how: str) -> str:
-    """What became of one programme; `how` is `why` where it is said of the resident, and `letter` where to the resident."""
+def reason(one: Why, resident: Resident, phrases: Phrases) -> str:
+    """What became of one programme, as it is said to the resident."""
     if one.answer is None:
-        return phrases.say(f"{how}.unlisted")
+        return phrases.say("letter.unlisted")
     if one.answer == "full" and one.last_rank is not None:
-        return phrases.say(f"{how}.full", rank=phrases.ordinal(one.rank or 0), quota=one.quota, last=phrases.ordinal(one.last_rank))
+        return phrases.say("letter.full", rank=phrases.ordinal(one.rank or 0), quota=one.quota, last=phrases.ordinal(one.last_rank))
     withdrawn = Became.YOU_WITHDREW if resident.standing is Standing.WITHDRAWN else Became.IT_WITHDREW
     return phrases.say(f"letter.became.{LETTERS.get(one.answer, Became.NO_PLACES if one.answer == 'full' else withdrawn).key}")
 
@@ -36,7 +36,7 @@ def asked(run: Run, name: str, programme: Optional[str], timeout: float) -> Tupl
 def answer(run: Run, name: str, programme: Optional[str] = None, timeout: float = DEFAULT_TIMEOUT) -> List[str]:
     """Whose answer it is, how the resident stands, and what became of what was asked."""
     phrases, (member, resident, found) = run.language().phrases(), asked(run, name, programme, timeout)
-    rows = [(f"{one.choice}. " if one.choice else "") + phrases.say("letter.row", programme=one.programme, said=reason(one, resident, phrases, "why"))
+    rows = [(f"{one.choice}. " if one.choice else "") + phrases.say("letter.row", programme=one.programme, said=reason(one, resident, phrases))
             for one in found]
     return [member.label, " ".join(Letters(run.market, run.outcome, run.about()).said(resident)), *rows]
 
@@ -45,5 +45,4 @@ def letter(run: Run, name: str, programme: Optional[str], timeout: float, day: d
     """The answer as a letter to the resident, in the resident's language."""
     _, resident, found = asked(run, name, programme, timeout)
     letters = Letters(run.market, run.outcome, replace(run.about(), day=day), None, "name", run.language().column, run.texts())
-    return letters.letter(resident, [(one.choice or 0, {"programme": one.programme, "said": reason(one, resident, letters.phrases[resident.name], "letter")})
-                                     for one in found])
+    return letters.letter(resident, [(one.choice or 0, one.programme, reason(one, resident, letters.phrases[resident.name])) for one in found])

@@ -108,7 +108,7 @@ class Faults:
             return
         kind = code.partition(".")[0]
         cell = [] if row is None or column is None else [Cell(table, row, column)]
-        before = self.by_key.get((kind,) + key) if key else None
+        before = self.by_key.get((kind,) + key)
         if before is not None:
             before.cells += cell
             return

@@ -2,10 +2,11 @@
 import hashlib
 import json
 import os
+import shutil
 from contextlib import contextmanager
 from itertools import islice
 from pathlib import Path
-from typing import Any, Dict, Iterable, Iterator, List, Set
+from typing import Any, Dict, Iterable, Iterator, List, Set, Union
 
 from . import leftover, stopping
 from .faults import OfficeError
@@ -76,6 +77,31 @@ def files_below(path: Path) -> Dict[str, Path]:
     return {one.relative_to(path).as_posix(): one for one in sorted(map(Path, below(str(path))))}
 
 
+def zipped(path: Path) -> bytes:
+    """The files below a folder as one .zip, in a folder of the same name."""
+    import io
+    import zipfile
+
+    made = io.BytesIO()
+    with zipfile.ZipFile(made, "w", zipfile.ZIP_DEFLATED) as archive:
+        for name, one in files_below(path).items():
+            if not one.is_symlink():
+                archive.write(one, f"{path.name}/{name}")
+    return made.getvalue()
+
+
+def copied(path: Path, out: str) -> None:
+    """Copies a folder to where nothing stands, whole or not at all. OfficeError."""
+    refuse(out)
+    try:
+        with stopping.unfinished(draft_of(out)) as part, leftover.made(part):
+            shutil.copytree(path, part, symlinks=True, dirs_exist_ok=True)
+            refuse(out)
+            os.rename(part, os.path.abspath(out))
+    except OSError as error:
+        raise OfficeError("out.unwritten", 1, out, cause=cause_of(error)) from None
+
+
 def file_names(docket_names: Iterable[str], ending: str) -> Dict[str, str]:
     """A file's name for each of a docket's names: any system takes it, and none is another one in capitals."""
     made: Dict[str, str] = {}
@@ -105,16 +131,16 @@ class Draft:
         self.private = private
         self.owners = OWNERS if readable else OWNERS | LISTS
         self.sums: Dict[str, str] = {}
+        self.folders: Set[str] = set()
 
-    def write(self, name: str, data: bytes) -> str:
-        """Writes a file and answers its digest."""
+    def write(self, name: str, data: Union[bytes, Iterable[bytes]]) -> str:
+        """Writes a file, whole or part by part, and answers its digest."""
         part = name.split("/")[0]
         private = self.private and part != PUBLIC or part in self.owners
-        target = self.path / name
-        if "/" in name:
-            target.parent.mkdir(mode=0o700 if private else 0o777, exist_ok=True)
-        write_new(target, data, PRIVATE if private else SHARED)
-        self.sums[name] = digest(data)
+        if part != name and part not in self.folders:
+            self.folders.add(part)
+            (self.path / part).mkdir(mode=0o700 if private else 0o777, exist_ok=True)
+        self.sums[name] = write_new(f"{self.path}/{name}", data, PRIVATE if private else SHARED)
         return self.sums[name]
 
     def finish(self, manifest: Dict[str, Any]) -> None:
@@ -133,7 +159,6 @@ def new_folder(out: str, private: bool = False, readable: bool = False) -> Itera
     OfficeError where it is there already or can't be written; no half of it is left behind, whatever ends the command.
     """
     refuse(out)
-    target = Path(os.path.abspath(out))
     # Its name stands before the folder does, so that no signal comes between the two.
     with stopping.unfinished(draft_of(out)) as part:
         try:
@@ -142,7 +167,7 @@ def new_folder(out: str, private: bool = False, readable: bool = False) -> Itera
                 if not private:
                     part.chmod(0o777 & ~umask())
                 refuse(out)
-                os.rename(part, target)
+                os.rename(part, os.path.abspath(out))
         except OSError as error:
             raise OfficeError("out.unwritten", 1, out, cause=cause_of(error)) from None
 

@@ -5,7 +5,7 @@ from dataclasses import dataclass, field
 from functools import lru_cache
 from typing import Dict, FrozenSet, Iterator, List, Optional, Sequence, Tuple, TypeVar
 
-from ..docket import MOST_RESIDENTS
+from ..passes import NATIONAL
 from ..near import edits
 from .faults import Faults, OfficeError, Remedy, Values
 from .languages import COUNTS, WORDS
@@ -17,7 +17,7 @@ Key = TypeVar("Key", str, int)
 TITLES = {"programme": "Programme", "resident": "Applicant", "places": "Places", "rank": "Rank", "id": "ID",
           "given": "First name", "family": "Last name", "withdrawn": "Withdrawn"}
 # The longest list has as many columns as there are residents at most, and a few stand before it.
-MOST_COLUMNS = MOST_RESIDENTS + 100
+MOST_COLUMNS = NATIONAL.residents + 100
 ROLES = ("programme", "resident", "places", "rank", "id", "given", "family", "withdrawn")
 HEADING = f"ROLE=WORD, where ROLE is one of {', '.join(ROLES)}"
 NUMBERED = re.compile(r"(?P<before>.*?)\s*(?:(?<!\w)(?:no|nr|num)|#)?\s*0*(?P<number>[0-9]{1,5})(?P<ending>\s?[a-z]{1,4})?(?!\w)\s*(?P<after>.*)")

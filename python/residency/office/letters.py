@@ -1,10 +1,10 @@
 """A letter for each resident: what the match gave, and the list that it was made from; as text, and as pages to print."""
 import html
 import re
-import string
 import textwrap
+from functools import lru_cache
 from types import MappingProxyType
-from typing import Any, Dict, Iterable, List, Mapping, Optional, Sequence, Tuple, Union
+from typing import Any, Dict, Iterable, Iterator, List, Mapping, Optional, Sequence, Tuple, Union
 
 from ..market import Market
 from ..names import docket_names
@@ -20,9 +20,8 @@ TEXTS = ("sender", "appeals", "signature")
 # Templates of an office: one text, or by a standing each one's, with one for all others.
 Templates = Union[str, Mapping[str, str], None]
 OTHERS, PROGRAMME = "letter", "programme"
-# The rows of a letter: each one's number, and the values of its phrase; those of these names are names.
-Rows = List[Tuple[int, Mapping[str, str]]]
-NAMES = ("programme", "name")
+# The rows of a letter: each one's number, the name in it, and what is said of that.
+Rows = List[Tuple[int, str, str]]
 FIELDS = ("day", "date", "title", "name", "id", "programme", "choice", "listed", "outcome", "list", "docket_name",
           "docket_sha256", "lists_root", "result_root", "sealed", *TEXTS)
 # A hash without a salt, from which lists can be guessed: no letter of a sealed match has it.
@@ -31,6 +30,7 @@ UNSALTED = "docket_sha256"
 LETTERS_PAGE, ROSTERS_PAGE = "letters.html", "rosters.html"
 # How many letters a line of a letter has.
 WIDTH = 72
+FIELD = re.compile(r"\$(?:(\$)|(\w+)|\{(\w+)\})")
 # What a sentence on a list that led to no place tells apart.
 TOGETHER = (Became.FULL, Became.NO_PLACES, Became.NOT_RANKED, Became.IT_WITHDREW)
 
@@ -87,6 +87,11 @@ def why_not(became: List[Became], phrases: Phrases) -> str:
     return phrases.say(f"letter.{'only' if count == 1 else 'both'}.{key}") if count < 3 else phrases.say(f"letter.every.{key}", count=count)
 
 
+def formed(template: str) -> str:
+    """A checked template as a form that takes its fields by `%`."""
+    return FIELD.sub(lambda found: "$" if found[1] else f"%({found[2] or found[3]})s", template.replace("%", "%%"))
+
+
 class Letters:
     """The letters to the residents of one match. With a `column` of those that are kept each resident's is in the language that the
     column says."""
@@ -102,8 +107,12 @@ class Letters:
         self.phrases = {one.name: about.phrases for one in self.members()}
         if column:
             self.phrases.update(spoken(outcome, outcome.columns.index(column), about.phrases))
-        self.templates = {(one.language, kind): self.template(one, kind)
-                          for one in dict.fromkeys([about.phrases, *self.phrases.values()]) for kind in self.kinds}
+        spoken_in = list(dict.fromkeys([about.phrases, *self.phrases.values()]))
+        self.templates = {(one.language, kind): self.template(one, kind) for one in spoken_in for kind in self.kinds}
+        self.forms = {kind: formed(text) for kind, text in self.templates.items()}
+        self.same = {one: self.same_fields(one) for one in spoken_in}
+        self.became = {one: {became.key: one.say(f"letter.became.{became.key}") for became in Became} for one in spoken_in}
+        self.row = lru_cache(1 << 14)(self.both_rows)
         self.kept = fields_of(outcome.columns)
         self.lists = Lists(market)
 
@@ -135,15 +144,18 @@ class Letters:
             refuse_unsalted(text)
         return text
 
+    def same_fields(self, phrases: Phrases) -> Dict[str, str]:
+        """What the fields of the template stand for that are the same in all letters of a language."""
+        roots = self.about.roots
+        return {**self.texts, "day": phrases.day(self.about.day), "date": self.about.day.isoformat(), "title": self.about.title,
+                UNSALTED: self.about.digests.get("docket.csv", ""), "lists_root": roots.lists if roots else "",
+                "result_root": roots.result if roots else "", "sealed": how_to_check(roots, phrases)}
+
     def fields(self, one: Any) -> Dict[str, str]:
         """What the fields of the template stand for, without those that a text and a page write differently."""
-        roots, phrases = self.about.roots, self.phrases[one.name]
-        return {
-            **self.texts, "day": phrases.day(self.about.day), "date": self.about.day.isoformat(), "title": self.about.title,
-            "name": one.name, "id": one.id, "listed": str(one.ranked), "docket_name": one.docket_name,
-            UNSALTED: self.about.digests.get("docket.csv", ""), "lists_root": roots.lists if roots else "",
-            "result_root": roots.result if roots else "", "sealed": how_to_check(roots, phrases), **self.own_fields(one, phrases),
-        }
+        phrases = self.phrases[one.name]
+        return {**self.same[phrases], "name": one.name, "id": one.id, "listed": str(one.ranked), "docket_name": one.docket_name,
+                **self.own_fields(one, phrases)}
 
     def own_fields(self, one: Any, phrases: Phrases) -> Dict[str, str]:
         """Those of a resident alone."""
@@ -151,18 +163,24 @@ class Letters:
 
     def letter(self, one: Any, rows: Optional[Rows] = None) -> str:
         """A letter as text, with these rows where they are given."""
-        outcome = "\n".join(textwrap.fill(line, WIDTH, break_long_words=False, break_on_hyphens=False) for line in self.said(one))
+        outcome = "\n".join(line if len(line) <= WIDTH and line.isprintable() and line == line.strip() else
+                            textwrap.fill(line, WIDTH, break_long_words=False, break_on_hyphens=False) for line in self.said(one))
         rows, phrases = self.rows(one) if rows is None else rows, self.phrases[one.name]
-        width = max((len(str(number)) for number, _ in rows), default=0)
-        lines = [f"  {number:>{width}}. {phrases.say(f'{self.said_by}.row', **values)}" for number, values in rows]
+        width = max((len(str(number)) for number, _, _ in rows), default=0)
+        lines = [f"  {number:>{width}}. {self.row(phrases, name, said)[0]}" for number, name, said in rows]
         listed = "\n".join([phrases.say(f"{self.said_by}.list"), "", *lines]) if rows else phrases.say(f"{self.said_by}.list-empty")
-        return string.Template(self.templates[phrases.language, self.kind(one)]).substitute(self.fields(one), outcome=outcome, list=listed)
+        return self.forms[phrases.language, self.kind(one)] % {**self.fields(one), "outcome": outcome, "list": listed}
+
+    def both_rows(self, phrases: Phrases, name: str, said: str) -> Tuple[str, str]:
+        """A row as text, and as a part of the page."""
+        key, shown = f"{self.said_by}.row", bdi(name)
+        return (phrases.say(key, programme=name, name=name, said=said),
+                phrases.html(key, programme=shown, name=shown, said=html.escape(said, False)) + "</li>")
 
     def rows(self, one: Any) -> Rows:
         """The list as it was matched, with what became of each."""
-        phrases = self.phrases[one.name]
-        return [(choice, {"programme": programme, "said": phrases.say(f"letter.became.{became.key}")})
-                for choice, (programme, became) in enumerate(self.lists.became(one), 1)]
+        said = self.became[self.phrases[one.name]]
+        return [(choice, programme, said[became.key]) for choice, (programme, became) in enumerate(self.lists.became(one), 1)]
 
     def said(self, one: Any) -> List[str]:
         """What the match gave, as lines."""
@@ -174,39 +192,41 @@ class Letters:
             return [phrases.say(f"letter.{one.standing.key}")]
         return [phrases.say("letter.unmatched", why=why_not([became for _, became in self.lists.became(one)], phrases))]
 
-    def all(self) -> Dict[str, str]:
-        """Each member's letter, by docket name."""
-        return {one.docket_name: self.letter(one) for one in self.members()}
-
-    def article(self, one: Any, blocks: List[string.Template]) -> str:
+    def article(self, one: Any, form: str, sealed: str) -> str:
         """A letter as a part of the page."""
         phrases = self.phrases[one.name]
         fields = {name: html.escape(value) for name, value in self.fields(one).items()}
-        fields.update(name=bdi(one.name), outcome=html.escape(" ".join(self.said(one))))
-        shown = [(number, {name: bdi(text) if name in NAMES else html.escape(text, False) for name, text in values.items()})
-                 for number, values in self.rows(one)]
-        rows = "\n".join((f'<li value="{number}">' if number != count else "<li>") + phrases.html(f"{self.said_by}.row", **values) + "</li>"
-                         for count, (number, values) in enumerate(shown, 1))
+        fields.update(name=bdi(one.name), outcome=html.escape(" ".join(self.said(one))), sealed=sealed)
+        rows = "\n".join((f'<li value="{number}">' if number != count else "<li>") + self.row(phrases, name, said)[1]
+                         for count, (number, name, said) in enumerate(self.rows(one), 1))
         fields["list"] = (f"</p>\n<p>{phrases.html(f'{self.said_by}.list')}</p>\n<ol>\n{rows}\n</ol>\n<p>" if rows
                           else phrases.html(f"{self.said_by}.list-empty"))
-        text = "\n".join(f"<p>{block.substitute(fields)}</p>" for block in blocks)
         spoken = "" if phrases is self.about.phrases or self.own_of(self.kind(one)) is not None else lang(phrases)
         begin = f'<article id="{one.docket_name}"{spoken} aria-label="{html.escape(one.name)}">'
-        return f'{begin}\n{EMPTY.sub("", text)}\n</article>'
+        return f'{begin}\n{EMPTY.sub("", form % fields)}\n</article>'
 
     def page(self) -> str:
         """All letters in one file, each on a sheet of its own when it is printed."""
-        phrases, blocks = self.about.phrases, {}
+        return "".join(self.parts())
+
+    def parts(self) -> Iterator[str]:
+        """The parts of the page, in order."""
+        phrases, forms = self.about.phrases, {}
         for kind, template in self.templates.items():
             parts = re.split(r"\n(?:[ \t]*\n)+", template.strip("\n"))
-            blocks[kind] = [string.Template(html.escape(part)) for part in parts if part.strip()]
+            forms[kind] = formed("\n".join(f"<p>{html.escape(part)}</p>" for part in parts if part.strip()))
+        sealed = {one: html.escape(how_to_check(self.about.roots, one, None, "")) for one in self.same}
         who = by_name(self.members(), phrases, self.order)
         title = phrases.html("letters.title", title=html.escape(self.about.title), date=self.about.day.isoformat())
-        inside = "\n".join(self.article(one, blocks[self.phrases[one.name].language, self.kind(one)]) for one in who)
         # The words of a template may be in any language.
         language = "" if any(self.own_of(kind) is not None for kind in self.kinds) else lang(phrases)
-        return document(language, title, COLOURS + LETTERS_STYLE, f"<header>\n<h1>{html.escape(self.about.title)}</h1>\n<p>"
-                        f"{phrases.html('letters.told', count=len(who))}</p>\n</header>\n<main>\n{inside}\n</main>")
+        begin, _, end = document(language, title, COLOURS + LETTERS_STYLE, f"<header>\n<h1>{html.escape(self.about.title)}</h1>\n<p>"
+                              f"{phrases.html('letters.told', count=len(who))}</p>\n</header>\n<main>\0</main>").rpartition("\0")
+        yield begin + "\n" * (not who)
+        for one in who:
+            spoken = self.phrases[one.name]
+            yield "\n" + self.article(one, forms[spoken.language, self.kind(one)], sealed[spoken])
+        yield "\n" + end
 
 
 class ProgrammeLetters(Letters):
@@ -228,7 +248,7 @@ class ProgrammeLetters(Letters):
 
     def rows(self, one: Any) -> Rows:
         ranks = {name: rank for rank, name in enumerate(self.market.programme_lists.get(one.name, ()), 1)}
-        return [(ranks[name], {"name": called(self.outcome.residents[name])}) for name in one.residents]
+        return [(ranks[name], called(self.outcome.residents[name]), "") for name in one.residents]
 
     def said(self, one: Any) -> List[str]:
         phrases = self.phrases[one.name]
@@ -247,12 +267,12 @@ def spoken(outcome: Outcome, column: int, otherwise: Phrases) -> Dict[str, Phras
     return {one.name: known[one.kept[column].strip().casefold()] for one in outcome.residents.values()}
 
 
-def how_to_check(roots: Optional[Roots], phrases: Phrases) -> str:
-    """What a letter of a sealed match says of it: the roots, and how to check, in three lines."""
+def how_to_check(roots: Optional[Roots], phrases: Phrases, width: Optional[int] = WIDTH, before: str = "  ") -> str:
+    """What a letter of a sealed match says of it: the roots, and how to check, in three lines. A page breaks lines by itself."""
     if roots is None:
         return ""
     begin, *lines = [phrases.say("letter.sealed", count=roots.count), *phrases.say("letter.check").split(NEW_LINE)]
-    return "\n".join([textwrap.fill(begin, WIDTH), "", f"  {roots.lists}", f"  {roots.result}", "", *lines])
+    return "\n".join([textwrap.fill(begin, width or len(begin)), "", f"{before}{roots.lists}", f"{before}{roots.result}", "", *lines])
 
 
 # A paragraph of which a field without a text is all.

@@ -2,12 +2,12 @@
 import re
 from typing import Callable, Dict, List, Optional, Sequence, Tuple
 
-from ..docket import MOST_PAIRS
 from ..market import Market
 from ..names import PROGRAMME, RESIDENT, Member, Names, docket_names
 from ..near import NearNames, edits, folded
+from ..passes import NATIONAL
 from ..records import is_name
-from . import doubts, national
+from . import doubts
 from .faults import Cell, Fault, Faults, Remedy, Values
 from .headings import bare, meanings
 from .settings import Settings
@@ -248,10 +248,10 @@ def market_of(programmes: Table, residents: Table, faults: Faults, options: Sett
     doubts.note_empty(residents, resident_lists, programme_lists)
     for table in (programmes, residents):
         note_shared(table)
-    pairs = mutual_pairs(programme_lists, resident_lists)
-    if pairs > MOST_PAIRS:
-        faults.tell("limit.pairs", programmes.name, None, None, {
-            "pairs": pairs, "most": MOST_PAIRS, "things": "pairs", "national": national.MOST_PAIRS, "program": national.PROGRAM})
+    wanted = [set(listed) for listed in resident_lists]
+    pairs = sum(programme in wanted[resident] for programme, listed in enumerate(programme_lists) for resident in listed)
+    if pairs > options.most().pairs:
+        faults.tell("limit.pairs", programmes.name, None, None, {"pairs": pairs, "most": options.most().pairs, "sealed": options.is_sealed})
     if len(faults):
         return None
     names = Names([Member(PROGRAMME, made, entry.name, entry.id)
@@ -263,7 +263,7 @@ def market_of(programmes: Table, residents: Table, faults: Faults, options: Sett
     market = Market({name: entry.places or 0 for name, entry in zip(of_programmes, programmes.entries)},
                     {name: [of_residents[one] for one in listed] for name, listed in zip(of_programmes, programme_lists)},
                     {name: [of_programmes[one] for one in listed] for name, listed in zip(of_residents, resident_lists)},
-                    names=names)
+                    names=names, most=NATIONAL)
     gone = [[name for name, entry in zip(called, table.entries) if entry.withdrawn]
             for called, table in ((of_programmes, programmes), (of_residents, residents))]
     return market.withdraw(*gone) if any(gone) else market
@@ -292,9 +292,3 @@ def note_shared(table: Table) -> None:
         cells = [Cell(table.name, one.row, one.cell) for those in shared for one in those]
         values = {"names": [(those[0].name, [one.id for one in those]) for those in shared]}
         table.notes.append(Fault("note.shared", table.name, cells[0].row, cells[0].column, cells, values))
-
-
-def mutual_pairs(programme_lists: List[List[int]], resident_lists: List[List[int]]) -> int:
-    """How many pairs rank one another."""
-    wanted = [set(listed) for listed in resident_lists]
-    return sum(programme in wanted[resident] for programme, listed in enumerate(programme_lists) for resident in listed)

@@ -1,12 +1,18 @@
 """Where a docket goes that is over a limit of residency: the program of the national limits, which takes larger ones."""
+from ..passes import NATIONAL
+
 PROGRAM = "residency-national"
-MOST = {"programme": 10_000, "resident": 100_000}
-MOST_PAIRS, MOST_RECORDS = 2_000_000, 20_000_000
 # How each fault of a docket begins that the program of the national limits may not have.
 OVER = "more than "
 
 
+# What is said as soon as a step of such a match begins.
+STEPS = {"match": f"{PROGRAM} matches, audits and replays", "folder": "the folder is written"}
+# What is told of tables over a limit before their match begins.
+NOTE = f"note: over a limit of residency: {PROGRAM} matches this, seal and verify don't take it"
+
+
 def line() -> str:
     """What is told after a docket's faults, where one is over a limit."""
-    return (f"{PROGRAM} takes {MOST['programme']:,} programmes, {MOST['resident']:,} residents, {MOST_PAIRS:,} acceptable pairs and "
-            f"{MOST_RECORDS:,} records")
+    return (f"{PROGRAM} takes {NATIONAL.programmes:,} programmes, {NATIONAL.residents:,} residents, {NATIONAL.pairs:,} acceptable pairs and "
+            f"{NATIONAL.records:,} records")

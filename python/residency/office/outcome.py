@@ -10,12 +10,10 @@ from .phrases import Phrases
 
 
 class Word(Enum):
-    """A word of an outcome."""
+    """A word of an outcome; `key` is the end of the names of its phrases."""
 
-    @property
-    def key(self) -> str:
-        """The end of the names of its phrases."""
-        return str(self.value).replace(" ", "-")
+    def __init__(self, word: str) -> None:
+        self.key = word.replace(" ", "-")
 
 
 class Standing(Word):

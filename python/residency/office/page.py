@@ -5,6 +5,7 @@ It is one file that needs nothing else, without a script; it reads on a telephon
 import html
 from dataclasses import dataclass, field
 from datetime import date
+from functools import lru_cache
 from pathlib import Path
 from typing import Any, Dict, Iterable, List, Optional, Sequence, Tuple, Union
 
@@ -32,6 +33,7 @@ class About:
     phrases: Phrases = field(default_factory=english)
 
 
+@lru_cache(1 << 12)
 def bdi(text: str) -> str:
     """A name as it stands in the page; its direction changes nothing beside it."""
     return f"<bdi>{html.escape(text)}</bdi>"

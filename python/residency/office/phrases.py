@@ -17,6 +17,8 @@ FOLDER = Path(__file__).with_name("phrases")
 ENGLISH = "en"
 REMARK, NEW_LINE = "#", " | "
 VALUE = re.compile(r"\{(\w+)(?::([^{}]*))?\}")
+# A phrase's own words, and after each but the last a value's name and its forms, if any.
+cut = lru_cache(1 << 12)(VALUE.split)
 # By its word each way in which a language counts: how many forms it has, and which one goes with a number.
 PLURALS: Dict[str, Tuple[int, Callable[[int], int]]] = {
     "one": (2, lambda number: int(number != 1)),
@@ -68,13 +70,12 @@ class Phrases:
         return self.filled(html.escape(self.texts[key], quote=False), values)
 
     def filled(self, text: str, values: Mapping[str, Any]) -> str:
-        def value(found: "re.Match[str]") -> str:
-            one = values[found[1]]
-            if found[2] is not None:
-                return found[2].split("|")[self.form(one)]
-            return self.number(one) if isinstance(one, int) else str(one)
-
-        return VALUE.sub(value, text)
+        words = cut(text)
+        said = words[:1]
+        for at in range(1, len(words), 3):
+            one, forms = values[words[at]], words[at + 1]
+            said += (forms.split("|")[self.form(one)] if forms is not None else self.number(one) if isinstance(one, int) else str(one), words[at + 2])
+        return "".join(said)
 
     def number(self, number: int) -> str:
         return f"{number:,}".replace(",", THOUSANDS[self.texts["thousands"]])
@@ -82,6 +83,7 @@ class Phrases:
     def percent(self, count: int, whole: int) -> str:
         return self.say("percent", number=f"{100 * count / whole:.0f}")
 
+    @lru_cache(1 << 12)
     def ordinal(self, number: int) -> str:
         digits = str(number)
         text = next(text for ending, text in self.ordinals if digits == ending or ending[0] == "*" and digits.endswith(ending[1:]))
@@ -95,6 +97,7 @@ class Phrases:
         *before, last = said
         return last if not before else self.say("several-together" if len(before) > 1 else "together", before=", ".join(before), last=last)
 
+    @lru_cache(1 << 17)
     def alphabetical(self, name: str) -> Tuple[str, str]:
         """What names are sorted by: their letters without accents and capitals, then as they are."""
         plain = unicodedata.normalize("NFKD", unicodedata.normalize("NFC", name.casefold()).translate(self.after).translate(PLAIN))

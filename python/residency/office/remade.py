@@ -3,11 +3,12 @@ Nothing is written but a secret, a key and a sheet, for the program that reads t
 from dataclasses import replace
 from datetime import date
 from pathlib import Path
-from typing import Any, Dict, Iterator, List, NamedTuple, Optional, Set, Tuple
+from typing import Any, Dict, Iterable, Iterator, List, NamedTuple, Optional, Set, Tuple, Union
 
 from ..key import write_key
 from ..market import Market
 from ..names import PROGRAMME, RESIDENT, Names
+from ..passes import NATIONAL
 from ..program import run_program
 from . import auditor, compare, folder, running
 from .faults import OfficeError
@@ -99,7 +100,7 @@ def in_order(market: Market, gone: List[List[str]]) -> Market:
 
 
 def with_withdrawn(market: Market, programmes: List[str], residents: List[str]) -> Market:
-    return Market(market.quotas, market.programme_lists, market.resident_lists, programmes, residents, market.names)
+    return Market(market.quotas, market.programme_lists, market.resident_lists, programmes, residents, market.names, NATIONAL)
 
 
 def befores(market: Market) -> Iterator[Market]:
@@ -126,7 +127,8 @@ class Remade(Draft):
         self.source, self.claimed = source, claimed
         self.files: Dict[str, bytes] = {}
 
-    def write(self, name: str, data: bytes) -> str:
+    def write(self, name: str, data: Union[bytes, Iterable[bytes]]) -> str:
+        data = data if isinstance(data, bytes) else b"".join(data)
         if name in (folder.KEY, folder.SECRET, folder.SHEET):
             super().write(name, data)
         self.files[name], self.sums[name] = data, digest(data)

@@ -50,6 +50,14 @@ def tables_of(run: "Run") -> Dict[str, bytes]:
     return made
 
 
+def write_tables(run: "Run", out: str) -> None:
+    """Writes the tables of the next round into a new folder."""
+    tables = tables_of(run)
+    with folder.new_folder(out, private=True) as draft:
+        for name, data in tables.items():
+            draft.write(f"{name}.xlsx", data)
+
+
 def rows_of(data: bytes) -> List[Row]:
     """The rows of what a folder keeps of the rounds before it."""
     heading, rows = rows_below(data) if data else ([], [])

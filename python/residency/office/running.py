@@ -7,6 +7,7 @@ from ..errors import DocketFault
 from ..key import read_key, write_key
 from ..market import Market
 from ..names import PROGRAMME, RESIDENT, Names
+from ..passes import NATIONAL
 from ..program import DEFAULT_TIMEOUT, run_program
 from . import folder, public, rosters, rounds, seal
 from .faults import OfficeError
@@ -66,11 +67,12 @@ def matched(market: Market, timeout: float, details: Details) -> Matched:
     which no whole program gives a cause for."""
     docket = market.docket()
     match = market.match(workers=1, journal=True, timeout=timeout)
-    _, audit = run_program("residency", ["audit"], docket + match.sheet, timeout)
-    _, replay = run_program("residency", ["replay"], docket + match.sheet + match.journal, timeout)
+    program = market.program("residency")
+    _, audit = run_program(program, ["audit"], docket + match.sheet, timeout)
+    _, replay = run_program(program, ["replay"], docket + match.sheet + match.journal, timeout)
     if audit != b"S,stable\n" or not replay.startswith(b"G,"):
         raise OfficeError("program.unchecked")
-    _, version = run_program("residency", ["--version"], b"", timeout)
+    _, version = run_program(program, ["--version"], b"", timeout)
     return Matched(market, docket, match.sheet, match.journal, audit, replay, version.decode("utf-8", "replace").strip(),
                    outcome_of(market, match.places, details))
 
@@ -139,12 +141,11 @@ def fill_sealed(draft: Draft, market: Market, details: Details, wishes: Wishes, 
 
 def write_letters(draft: Draft, letters: Letters, inside: str) -> int:
     """Writes each member's letter, and the page of all of them, and answers how many there are."""
-    written = letters.all()
-    names = file_names(written, ".txt")
-    for made, text in written.items():
-        draft.write(inside + names[made], text.encode("utf-8"))
-    draft.write(letters.page_name, letters.page().encode("utf-8"))
-    return len(written)
+    names = file_names((one.docket_name for one in letters.members()), ".txt")
+    for one in letters.members():
+        draft.write(inside + names[one.docket_name], letters.letter(one).encode("utf-8"))
+    draft.write(letters.page_name, (part.encode("utf-8") for part in letters.parts()))
+    return len(names)
 
 
 class Kept:
@@ -154,7 +155,7 @@ class Kept:
         self.results = Results(path)
         self.at = path
         self.names = self.key()
-        self.market = self.sound(folder.DOCKET, lambda data: Market.from_docket(data, self.names))
+        self.market = self.sound(folder.DOCKET, lambda data: Market.from_docket(data, self.names, NATIONAL))
         self.details = self.read_details()
 
     def sound(self, name: str, reads: Callable[[bytes], Read], data: Optional[bytes] = None) -> Read:
@@ -188,15 +189,6 @@ class Kept:
         """The secret of a sealed folder, as it stands in its file."""
         self.sound(folder.SECRET, seal.secret_of)
         return self.results.checked(folder.SECRET)
-
-    def sheet_places(self) -> Dict[str, Optional[str]]:
-        """Where each resident is, by the sheet, in the office's own names."""
-        places: Dict[str, Optional[str]] = {name: None for name in self.market.resident_lists}
-        for line in self.results.checked(folder.SHEET).decode("ascii", "replace").splitlines():
-            kind, *names = line.split(",")
-            if kind == "M":
-                places[self.names.name(RESIDENT, names[0])] = self.names.name(PROGRAMME, names[1])
-        return places
 
     def read_details(self) -> Details:
         """The family names and kept columns, where the folder has some."""
@@ -243,8 +235,19 @@ class Run(Kept):
         super().__init__(path)
         if self.is_sealed() and not self.is_matched():
             raise OfficeError("folder.no-match", 3, self.at)
-        self.places = self.sheet_places()
+        self.places = self.sound(folder.SHEET, lambda data: self.market.read_match(data).places)
         self.outcome = outcome_of(self.market, self.places, self.details)
+
+
+def said_of(path: str) -> Dict[str, Any]:
+    """What a folder says of itself, for a list of folders; nothing where office didn't write it."""
+    try:
+        manifest = Results(path).manifest
+        phrases, day = Language.of(manifest).phrases(), date.fromisoformat(str(manifest["date"]))
+        return {"title": str(manifest["title"]), "day": phrases.day(day), "language": phrases.language, "sealed": manifest.get("sealed"),
+                "is_matched": folder.SHEET in manifest["sha256"]}
+    except (OfficeError, ValueError, LookupError, TypeError):
+        return {}
 
 
 def opened(path: str) -> Kept:

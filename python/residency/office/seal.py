@@ -46,17 +46,17 @@ def is_built() -> bool:
     return True
 
 
-def made(docket: bytes, key: Path, secret: Path, sheet: Optional[Path], timeout: float) -> Tuple[Roots, Dict[Member, bytes]]:
-    """The roots and each member's receipt, of a docket with its key and, after the match, its sheet's file. OfficeError where the
-    program `seal` is here and writes another byte."""
+def made(docket: bytes, key: Path, secret: Path, sheet: Optional[Path], timeout: float) -> Tuple[tree.Sealed, Optional[bytes]]:
+    """The trees of a docket with its key and, after the match, its sheet's file; and where the program `seal` is here, all receipts as
+    that writes them. OfficeError where it writes other roots."""
     own = tree.Sealed(docket, secret_of(secret.read_bytes()), None if sheet is None else sheet.read_bytes(), key.read_bytes())
-    receipts = own.receipts()
+    data = None
     if is_built():
         words = ["--key", str(key), "--secret", str(secret), *([] if sheet is None else ["--sheet", str(sheet)])]
         roots, data = (run_program("seal", [word, *words], docket, timeout)[1] for word in ("root", "receipts"))
-        if roots != own.roots().rows() or data != b"".join(bytes_of([("member", *one)]) + text for one, text in receipts.items()):
+        if roots != own.roots().rows():
             raise OfficeError("program.other-seal")
-    return own.roots(), receipts
+    return own, data
 
 
 def write(draft: Draft, docket: bytes, secret: bytes, sheet: bool, timeout: float, roots: Optional[Roots] = None) -> Optional[Roots]:
@@ -64,10 +64,17 @@ def write(draft: Draft, docket: bytes, secret: bytes, sheet: bool, timeout: floa
     a secret the roots are those that are known, if any."""
     if secret:
         draft.write(folder.SECRET, secret)
-        roots, receipts = made(docket, draft.path / folder.KEY, draft.path / folder.SECRET, draft.path / folder.SHEET if sheet else None, timeout)
-        names = receipt_files(list(receipts))
-        for member, receipt in receipts.items():
+        own, theirs = made(docket, draft.path / folder.KEY, draft.path / folder.SECRET, draft.path / folder.SHEET if sheet else None, timeout)
+        roots, names = own.roots(), receipt_files(own.members)
+        at = 0
+        for member, receipt in own.receipts():
+            row = bytes_of([("member", *member)]) + receipt
+            if theirs is not None and not theirs.startswith(row, at):
+                raise OfficeError("program.other-seal")
+            at += len(row)
             draft.write(names[member], receipt)
+        if theirs is not None and at != len(theirs):
+            raise OfficeError("program.other-seal")
     if roots is not None:
         draft.write(folder.ROOTS, roots.rows())
     return roots

@@ -16,8 +16,8 @@ from .tables import Table
 MOST_PLACES = 3
 # How many shared names a note tells, with how many IDs of each.
 MOST_NOTED = 5
-# How many sheets or columns a line names.
-MOST_NAMED = 6
+# How many sheets or columns a line names, and how many faults the desk shows.
+MOST_NAMED, MOST_AT_DESK = 6, 200
 # The sentences that are texts; those that depend on their values are made here. And what one and several faults of a kind are called,
 # and what the bytes of a file are that is no table.
 TEXTS = sections("sentences.txt")
@@ -164,6 +164,14 @@ SENTENCES: Dict[str, Sentence] = {
 }
 
 
+# What the desk says otherwise: without the names of options.
+DESK: Dict[str, Sentence] = {
+    **SENTENCES,
+    **TEXTS["DESK"],
+    "heading.several": lambda values: f"{Told(values['heading'])} may be " + " or ".join(MEANINGS[role] for role in values["roles"]) + ": say which",
+}
+
+
 # What can't be done, by its code; `at` is the folder or file that it is about, and `table` the file in that folder.
 ERRORS: Dict[str, Sentence] = {
     **TEXTS["ERRORS"],
@@ -265,6 +273,17 @@ def report(faults: Faults, all_of_them: bool = False) -> List[str]:
         named = ", ".join(f"{count:,} {MANY[kind][count > 1]}" for count, kind in more)
         lines.append(f"and {sum(count for count, _ in more):,} more: {named}" + ("" if all_of_them else " (--all tells each)"))
     return lines
+
+
+def at_desk(faults: Sequence[Fault], sheets: Mapping[str, str]) -> List[Dict[str, Any]]:
+    """The first of these faults or notes as JSON has them, in the desk's words."""
+    return [as_dict(one, sheets, as_sentence(DESK[one.code], one.values)) for one in faults[:MOST_AT_DESK]]
+
+
+def faults_at_desk(faults: Faults, sheets: Mapping[str, str]) -> Dict[str, Any]:
+    """The faults as the desk has them, and how many there are of each kind."""
+    kinds = {kind: (count, MANY[kind][count > 1]) for kind, count in faults.counts.items() if count}
+    return {"faults": at_desk(faults.every(), sheets), "count": len(faults), "kinds": kinds}
 
 
 def errors_as_dicts(error: OfficeError) -> List[Dict[str, Any]]:

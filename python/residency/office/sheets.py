@@ -11,6 +11,7 @@ import struct
 import zlib
 from dataclasses import dataclass, field
 from datetime import datetime, timedelta
+from functools import lru_cache
 from html import escape
 from pathlib import Path
 from typing import TYPE_CHECKING, Callable, Dict, Iterator, List, Optional, Sequence, Tuple
@@ -25,6 +26,9 @@ MOST_BYTES, MOST_CELLS = 256 << 20, 16_000_000
 MOST_ROWS, MOST_COLUMNS = 1 << 20, 1 << 14
 # No spreadsheet packs so many files, pictures and all.
 MOST_FILES = 10_000
+# The most that is read: so many bytes in one tag, a tag in so many others, so many names of tags and attributes, so many tags and
+# sheets. Each bounds what a byte may cost: the parser looks at an open tag again with each chunk, and keeps each name.
+MOST_OF_TAG, MOST_DEEP, MOST_NAMES, MOST_TAGS, MOST_SHEETS = 1 << 20, 100, 10_000, 12_000_000, 1_000
 # What a formula leaves in a cell where it fails; the last is where a program wrote a formula and no result.
 NO_RESULT = "#NO RESULT"
 ERRORS = ("#N/A", "#REF!", "#NAME?", "#VALUE!", "#DIV/0!", "#NULL!", "#NUM!", "#SPILL!", "#CALC!", NO_RESULT)
@@ -34,7 +38,7 @@ NO_MEMORY = expat.errors.codes[expat.errors.XML_ERROR_NO_MEMORY]
 REFERENCE = re.compile(r"([A-Z]{1,3})([1-9][0-9]{0,6})")
 # Formats of dates that every workbook knows by number, and what stands in the others'.
 DATES = frozenset((*range(14, 23), *range(27, 37), *range(45, 48), *range(50, 59)))
-QUOTED = re.compile(r'"[^"]*"|\\.|\[[^\]]*\]')
+QUOTED = re.compile(r'"[^"]*"?|\\.|\[[^\]]*\]?')
 # What the bytes of files begin with that aren't tables.
 BEGINS = ((b"\xd0\xcf\x11\xe0\xa1\xb1\x1a\xe1", "xls"), (b"%PDF", "pdf"), (b"{\\rtf", "rtf"), (b"\x1f\x8b", "packed"),
           (b"\x89PNG", "picture"), (b"\xff\xd8\xff", "picture"))
@@ -87,6 +91,12 @@ def sheet_of(data: bytes, wanted: Optional[str] = None) -> Sheet:
         raise BadBook("broken", {"error": str(error)}) from None
 
 
+def at_most(count: int, most: int, what: str) -> None:
+    """BadBook where there are more than so many."""
+    if count > most:
+        raise BadBook("too-many", {"most": most, "what": what})
+
+
 class Book:
     """An open workbook."""
 
@@ -95,7 +105,7 @@ class Book:
         self.names = set(archive.namelist())
         if len(archive.infolist()) > MOST_FILES:
             raise BadBook("packed-files", {"files": len(archive.infolist()), "most": MOST_FILES})
-        self.left = MOST_BYTES
+        self.left, self.tags, self.ends = MOST_BYTES, 0, 0
         self.main = self.main_part()
         self.strings: List[str] = []
         self.formats: List[Callable[[float], str]] = []
@@ -104,7 +114,7 @@ class Book:
 
     def main_part(self) -> str:
         """The name of the workbook's part; BadBook where this is another kind of file."""
-        if "mimetype" in self.names and self.archive.read("mimetype")[:40].startswith(b"application/vnd.oasis"):
+        if "mimetype" in self.names and self.archive.open("mimetype").read(40).startswith(b"application/vnd.oasis"):
             raise BadBook("kind", {"what": "ods"})
         if "xl/workbook.bin" in self.names:
             raise BadBook("kind", {"what": "xlsb"})
@@ -129,19 +139,30 @@ class Book:
     def parse(self, name: str, start: Callable[[str, Dict[str, str]], None], end: Callable[[str], None] = lambda name: None,
               text: Optional[Callable[[str], None]] = None) -> None:
         """Reads a part by what is to be done at the start and end of each element, whatever its namespace."""
-        parser = expat.ParserCreate(namespace_separator=" ")
+        parser, read = expat.ParserCreate(), 0
         parser.buffer_text = True
-        parser.StartElementHandler = lambda name, more: start(name.rpartition(" ")[2], more)
-        parser.EndElementHandler = lambda name: end(name.rpartition(" ")[2])
-        if text is not None:
-            parser.CharacterDataHandler = text
+
+        def opened(name: str, more: Dict[str, str]) -> None:
+            self.tags += 1
+            if self.tags - self.ends > MOST_DEEP or self.tags > MOST_TAGS:
+                raise BadBook("too-many", {"most": MOST_TAGS, "what": "tags"} if self.tags > MOST_TAGS else {"most": MOST_DEEP, "what": "tags within one another"})
+            start(name.rpartition(":")[2] if ":" in name else name, more)
+
+        def closed(name: str) -> None:
+            self.ends += 1
+            end(name.rpartition(":")[2] if ":" in name else name)
 
         def declared(*words: object) -> None:
             raise BadBook("entities")
 
-        parser.StartDoctypeDeclHandler = declared
+        parser.StartElementHandler, parser.EndElementHandler, parser.StartDoctypeDeclHandler = opened, closed, declared
+        if text is not None:
+            parser.CharacterDataHandler = text
         for chunk in self.chunks(name):
             parser.Parse(chunk, False)
+            read += len(chunk)
+            at_most(read - parser.CurrentByteIndex, MOST_OF_TAG, "bytes in one tag")
+            at_most(len(parser.intern), MOST_NAMES, "names of tags and attributes")
         parser.Parse(b"", True)
 
     def relations(self, name: str, folder: str) -> Dict[str, Tuple[str, str]]:
@@ -149,7 +170,7 @@ class Book:
         found: Dict[str, Tuple[str, str]] = {}
 
         def start(element: str, more: Dict[str, str]) -> None:
-            if element == "Relationship" and more.get("TargetMode") != "External":
+            if element == "Relationship":
                 target = more.get("Target", "")
                 whole = target[1:] if target.startswith("/") else posixpath.normpath(posixpath.join(folder, target))
                 found[more.get("Id", "")] = more.get("Type", "").rpartition("/")[2], whole
@@ -167,12 +188,14 @@ class Book:
             if element == "workbookPr" and more.get("date1904") in ("1", "true"):
                 self.first_day = datetime(1904, 1, 1)
             if element == "sheet":
-                id = next((value for key, value in more.items() if key.endswith(" id")), "")
+                id = next((value for key, value in more.items() if key.endswith(":id") and key != "xmlns:id"), "")
                 kind, target = self.targets.get(id, ("", ""))
                 if kind == "worksheet" and target in self.names:
                     names.append((more.get("name", ""), target, more.get("state", "visible") == "visible"))
 
         self.parse(self.main, start)
+        titles = [one[0] for one in names]
+        at_most(len(names), MOST_SHEETS, "sheets")
         for kind, target in self.targets.values():
             if kind == "sharedStrings" and target in self.names:
                 self.strings = self.texts(target)
@@ -181,9 +204,9 @@ class Book:
         if wanted is not None:
             chosen = [one for one in names if one[0].casefold() == wanted.casefold()]
             if not chosen:
-                raise BadBook("no-sheet", {"sheet": wanted, "sheets": [one[0] for one in names]})
-            return self.read(*chosen[0][:2], [one[0] for one in names])
-        sheets = [one for one in (self.read(name, target, [one[0] for one in names]) for name, target, visible in names if visible) if one.rows]
+                raise BadBook("no-sheet", {"sheet": wanted, "sheets": titles})
+            return self.read(*chosen[0][:2], titles)
+        sheets = [one for one in (self.read(name, target, titles) for name, target, visible in names if visible) if one.rows]
         if len(sheets) > 1:
             raise BadBook("sheets", {"sheets": [one.name for one in sheets]})
         return sheets[0] if sheets else Sheet(names[0][0] if names else "")
@@ -210,15 +233,16 @@ class Book:
         def start(element: str, more: Dict[str, str]) -> None:
             inside.append(element)
             if element == "numFmt":
-                codes[int(more.get("numFmtId", "0"))] = more.get("formatCode", "")
+                codes[whole(more.get("numFmtId", "0"))] = more.get("formatCode", "")
             elif element == "xf" and "cellXfs" in inside:
-                used.append(int(more.get("numFmtId", "0")))
+                used.append(whole(more.get("numFmtId", "0")))
 
         def end(_: str) -> None:
             inside.pop()
 
         self.parse(name, start, end)
-        return [self.writes(number, codes.get(number, "")) for number in used]
+        known = {number: self.writes(number, codes.get(number, "")) for number in {*used}}
+        return [known[number] for number in used]
 
     def writes(self, number: int, code: str) -> Callable[[float], str]:
         """How a format writes a number: as a date, with zeros before it, or as it is."""
@@ -241,6 +265,11 @@ class Book:
         reader = Cells(sheet, self.strings, self.formats)
         self.parse(target, reader.start, reader.end, reader.words.text)
         return sheet
+
+
+def whole(text: str) -> int:
+    """The number that plain digits write, none of them counted behind the ninth; -1 for any other text."""
+    return (int(text) if len(text) < 10 else 10 ** 9) if text.isdecimal() else -1
 
 
 def number_text(value: float) -> str:
@@ -293,19 +322,21 @@ class Cells:
 
     def start(self, element: str, more: Dict[str, str]) -> None:
         if element == "c":
-            found = REFERENCE.fullmatch(more.get("r", ""))
+            found = REFERENCE.fullmatch(more["r"]) if "r" in more else None
             self.column = column_of(found.group(1)) if found else self.column + 1
             self.kind, self.style, self.is_formula = more.get("t", "n"), more.get("s", ""), False
         elif element == "row":
-            self.number = int(more["r"]) if more.get("r", "").isdecimal() else self.number + 1
+            number = whole(more.get("r", ""))
+            self.number = number if number >= 0 else self.number + 1
             self.column, self.row = 0, []
-            if self.number > MOST_ROWS:
+            if self.number > MOST_ROWS or len(self.sheet.hidden) > MOST_ROWS:
                 raise BadBook("rows", {"row": self.number, "most": MOST_ROWS})
             if more.get("hidden") in ("1", "true"):
                 self.sheet.hidden.append(self.number)
         elif element == "col" and more.get("hidden") in ("1", "true"):
-            first, last = (int(more.get(name, "0")) for name in ("min", "max"))
+            first, last = (whole(more.get(name, "0")) for name in ("min", "max"))
             self.sheet.hidden_columns += range(max(first, 1), min(last, MOST_COLUMNS) + 1)
+            at_most(len(self.sheet.hidden_columns), MOST_COLUMNS, "hidden columns")
         elif element == "f":
             self.is_formula = True
         else:
@@ -313,9 +344,10 @@ class Cells:
 
     def end(self, element: str) -> None:
         if element == "c":
-            self.put(self.value(self.words.taken()))
+            if self.words.parts or self.is_formula or self.kind == "s":
+                self.put(self.value(self.words.taken()))
         elif element == "row":
-            if any(self.row):
+            if self.row:
                 self.sheet.rows.append((self.number, self.row))
         else:
             self.words.end(element)
@@ -335,7 +367,7 @@ class Cells:
     def value(self, text: str) -> str:
         """What a cell shows, by its kind."""
         if self.kind == "s":
-            if not text.isdecimal() or int(text) >= len(self.strings):
+            if not 0 <= whole(text) < len(self.strings):
                 raise BadBook("broken-text", {"row": self.number})
             return self.strings[int(text)]
         if self.is_formula and not text and self.kind != "str":
@@ -348,10 +380,11 @@ class Cells:
             number = float(text)
         except ValueError:
             return text
-        style = int(self.style) if self.style.isdecimal() else 0
+        style = max(whole(self.style), 0)
         return self.formats[style](number) if style < len(self.formats) else number_text(number)
 
 
+@lru_cache(None)
 def column_of(letters: str) -> int:
     """The number of a column, from 1, by its letters."""
     number = 0

@@ -11,7 +11,7 @@ from datetime import date
 from itertools import chain, islice
 from pathlib import Path
 from types import MappingProxyType
-from typing import TYPE_CHECKING, Callable, Dict, Iterator, List, Mapping, Optional, Sequence, Tuple
+from typing import TYPE_CHECKING, Any, Callable, Dict, Iterator, List, Mapping, Optional, Sequence, Set, Tuple
 
 from ..errors import DocketFault, ResidencyError
 from ..market import Market
@@ -25,7 +25,7 @@ from . import folder, leftover, letters as written, running, sealing, seal as se
 from .apart import Costly, Limits, Progress, apart, told
 from .compare import Change
 from .faults import Fault, Faults, FaultsError, OfficeError
-from .headings import Words
+from .headings import Words, bare
 from .lists import market_of
 from .outcome import Details
 from .page import About
@@ -33,18 +33,22 @@ from .phrases import Language, english
 from .running import Kept, Matched, Run, Wishes
 from .settings import TABLES, Settings, from_values
 from .tables import Given, Table, headed, heading_of, opened, read_table
+from .text import title_of
 from .tree import Roots
 from .who import the_one
 from .writing import cause_of, draft_of
 
 if TYPE_CHECKING:
+    from .rounds import Before
     from .verify import Checked, FromTables, Published, Verified
 
-__all__ = ["Compared", "Given", "Kept", "Limits", "Look", "Matched", "Read", "Run", "Settings", "Wishes", "Withdrawn", "check", "compare",
-           "details_of", "letters", "lint", "look", "match", "next", "seal", "sealed", "verify", "why", "withdraw", "write"]
+__all__ = ["Compared", "Given", "Kept", "Limits", "Look", "Matched", "Read", "Run", "Seen", "Settings", "Wishes", "Withdrawn", "check", "compare",
+           "details_of", "letters", "lint", "look", "match", "next", "seal", "sealed", "see", "tables", "verify", "why", "withdraw", "write"]
 OWNERS = dict(zip(TABLES, ("programme", "resident")))
 # So many rows below the heading are shown of a table, and so many faults of a docket are told together.
 MOST_PREVIEW, MOST_TOGETHER = 10, 1000
+# So many faults are shown in their rows, and so many further rows of a table for them.
+MOST_IN_ROWS, MOST_AT_FAULT = 200, 60
 
 
 def quietly(_: object) -> None:
@@ -78,7 +82,7 @@ class TablesError(FaultsError):
 @dataclass
 class Look:
     """What one table is, before it is read as a whole: its character set and what parts its cells, the sheets of a workbook, the
-    heading row with what each column means, and the first rows below it."""
+    heading row with what each column means, the first rows below it, and further rows that are asked for."""
 
     table: str
     encoding: str = ""
@@ -92,16 +96,38 @@ class Look:
     faults: Faults = field(default_factory=Faults)
     notes: Sequence[Fault] = ()
     language: str = "English"
+    more: Sequence[Tuple[int, List[str]]] = ()
+
+    def as_dict(self, most: int = 80) -> Dict[str, Any]:
+        """All of it that is shown, as JSON has it, with so many columns, and the word by which each would be a rank's."""
+        headings = list(self.headings)[:most]
+        shown = {name: getattr(self, name) for name in ("encoding", "delimiter", "sheet", "sheets", "heading_row", "meanings")}
+        return {**shown, "title": title_of(self.encoding), "headings": headings, "bare": [bare("rank", one) for one in headings],
+                "rows": [(number, row[:most]) for number, row in (*self.preview, *self.more)]}
+
+
+@dataclass
+class Seen:
+    """Tables as they are mended, one or both: what was read of them, and by its name the look of each, with its rows at fault."""
+
+    read: Read
+    looks: Dict[str, Look]
 
 
 def read(programmes: Given, residents: Given, settings: Settings, progress: Progress = quietly) -> Read:
     """Reads both tables in this process."""
+    return read_given(dict(zip(TABLES, (programmes, residents))), settings, progress)
+
+
+def read_given(given: Mapping[str, Given], settings: Settings, progress: Progress) -> Read:
+    """Reads the tables that are there in this process; where both are, their market too."""
     faults, words, tables = Faults(), Words(settings.heading, settings.ignore, settings.kept()), []
-    for name, given in zip(TABLES, (programmes, residents)):
-        progress(name)
-        tables.append(read_table(given, name, OWNERS[name], words, settings, faults))
+    for name in TABLES:
+        if name in given:
+            progress(name)
+            tables.append(read_table(given[name], name, OWNERS[name], words, settings, faults))
     progress("lists")
-    done = Read(tuple(tables), faults, market_of(tables[0], tables[1], faults, settings))
+    done = Read(tuple(tables), faults, market_of(tables[0], tables[1], faults, settings) if len(tables) == len(TABLES) else None)
     for table in tables:
         # The lists are in the market now, or nobody asks for them.
         table.rows.rows = iter(())
@@ -122,6 +148,17 @@ def check(programmes: Given, residents: Given, settings: Settings, progress: Pro
     return done
 
 
+def tables(programmes: Given, residents: Given, settings: Settings, before: "Optional[Before]" = None, allow_new: bool = False,
+           progress: Progress = quietly) -> Tuple[Sequence[Table], Market]:
+    """Both tables and their market, which fits the round before. TablesError where they are at fault."""
+    done = check(programmes, residents, settings, progress)
+    if done.market is not None and before is not None:
+        done.faults = before.faults(done.market, allow_new, done.tables)
+    if done.market is None or len(done.faults):
+        raise TablesError(done)
+    return done.tables, done.market
+
+
 def costly_at(costly: Costly) -> Faults:
     faults = Faults()
     values = {"seconds": costly.limits.seconds, "megabytes": costly.limits.megabytes}
@@ -129,8 +166,8 @@ def costly_at(costly: Costly) -> Faults:
     return faults
 
 
-def looked_at(given: Given, name: str, settings: Settings, progress: Progress = quietly) -> Look:
-    """Looks at one table in this process."""
+def looked_at(given: Given, name: str, settings: Settings, progress: Progress = quietly, wanted: Optional[Set[int]] = None) -> Look:
+    """Looks at one table in this process, and at the rows of it that are wanted."""
     progress(name)
     look, words = Look(name), Words(settings.heading, settings.ignore, settings.kept())
     text, rows, _ = opened(given.data, name, words, settings, look.faults)
@@ -138,6 +175,9 @@ def looked_at(given: Given, name: str, settings: Settings, progress: Progress = 
     look.sheets = rows.sheets or [name for fault in look.faults.every() for name in fault.values.get("sheets", ())]
     look.heading_row, look.headings, look.notes = heading_of(rows, settings.heading_row.get(name), name, words)
     look.preview = list(islice(rows.rows, MOST_PREVIEW))
+    if wanted is not None:
+        below = list(rows.rows)
+        look.more, rows.rows = [one for one in below if one[0] in wanted][:MOST_AT_FAULT], iter(below)
     if look.heading_row:
         rows.rows = chain(look.preview, rows.rows)
         columns = headed(name, OWNERS[name], look.heading_row, list(look.headings), rows, words, look.faults)
@@ -153,6 +193,27 @@ def look(given: Given, name: str, settings: Settings, progress: Progress = quiet
     except Costly as costly:
         return Look(name, faults=costly_at(costly))
     assert isinstance(done, Look)
+    return done
+
+
+def seen(given: Mapping[str, Given], settings: Settings, progress: Progress = quietly) -> Seen:
+    """Reads the tables that are there in this process, and looks at each, with its rows at fault."""
+    done = read_given(given, settings, progress)
+    rows: Dict[str, Set[int]] = {name: set() for name in given}
+    for fault in done.faults.every()[:MOST_IN_ROWS]:
+        for cell in fault.cells:
+            rows[cell.table].add(cell.row)
+    return Seen(done, {name: looked_at(one, name, settings, progress, rows[name]) for name, one in given.items()})
+
+
+def see(given: Mapping[str, Given], settings: Settings, progress: Progress = quietly, limits: Optional[Limits] = None) -> Seen:
+    """Reads the tables that are there, one or both, in a process of its own, for whoever mends them."""
+    most = limits or Limits.of(sum(len(one.data) for one in given.values()))
+    try:
+        done = apart(most, "seen", (given, settings), progress)
+    except Costly as costly:
+        return Seen(Read((), costly_at(costly)), {name: Look(name) for name in given})
+    assert isinstance(done, Seen)
     return done
 
 
@@ -273,7 +334,7 @@ def compare(before: Run, now: Run, progress: Progress = quietly) -> Compared:
 
 def letters(run: Run, template: written.Templates = None, day: Optional[date] = None, title: str = "", language: Optional[Language] = None,
             texts: Mapping[str, str] = MappingProxyType({}), progress: Progress = quietly) -> written.Letters:
-    """The letters of a match: `all()` has each resident's, and `page()` all of them on one page; in the folder's language, where no
+    """The letters of a match: `letter()` is that of one of its `members()`, and `page()` has all of them on one page; in the folder's language, where no
     other is named."""
     progress("letters")
     spoken = language or run.language()

@@ -5,8 +5,8 @@ from dataclasses import dataclass, field
 from itertools import chain, islice
 from typing import Dict, List, NamedTuple, Optional, Sequence, Set, Tuple
 
-from ..docket import MOST_PLACES, MOST_PROGRAMMES, MOST_RESIDENTS
-from . import national, sheets
+from ..passes import MOST_PLACES
+from . import sheets
 from .cells import Cells, Rows, other_mark, rows_of, tidied
 from .faults import Cell, Fault, Faults, Remedy, Values
 from .headings import Columns, Words, columns_of, plain
@@ -23,7 +23,6 @@ SCIENTIFIC = re.compile(r"[0-9](?:[.,][0-9]+)?E\+[0-9]+", re.IGNORECASE)
 TOTALS = frozenset(sections("words.txt")["TOTALS"]["words"].split(", "))
 # What may stand behind such a word in its cell: a number, and what was counted.
 COUNTED = re.compile("(?: (?:of|von|de|di|du|der|des))? (?:places|platze|stellen|plazas|posti|miejsc|miejsca|yer|postes)$|[ 0-9=]+$")
-MOST = {"programme": MOST_PROGRAMMES, "resident": MOST_RESIDENTS}
 # Of a column that isn't read, so many different cells are compared with the other table's names.
 MOST_COMPARED = 100
 # So many gaps of blank rows part a table from remarks below it; more are its form.
@@ -108,7 +107,7 @@ class Members:
 
     def __init__(self, table: Table, heading: List[str], columns: Columns, options: Settings, faults: Faults) -> None:
         self.table, self.columns, self.options, self.faults = table, columns, options, faults
-        self.head = heading
+        self.head, self.most = heading, getattr(options.most(), f"{table.owners}s")
         self.by_name: Dict[str, Entry] = {}
         self.by_id: Dict[str, Entry] = {}
         self.ranks: Dict[int, Dict[int, Item]] = {}
@@ -240,10 +239,8 @@ class Members:
         if ident:
             self.by_id[ident] = entry
         self.table.entries.append(entry)
-        if len(self.table.entries) == MOST[self.table.owners] + 1:
-            self.tell("limit.members", number, self.columns.owner, {
-                "most": MOST[self.table.owners], "things": f"{self.table.owners}s", "national": national.MOST[self.table.owners],
-                "program": national.PROGRAM})
+        if len(self.table.entries) == self.most + 1:
+            self.tell("limit.members", number, self.columns.owner, {"most": self.most, "things": f"{self.table.owners}s", "sealed": self.options.is_sealed})
         return entry
 
     def keep(self, number: int, entry: Entry, row: List[str]) -> None:
@@ -470,6 +467,9 @@ def read_table(given: Given, name: str, owners: str, words: Words, options: Sett
     members = Members(table, heading, columns, options, faults)
     for below, row in rows.rows:
         members.take(below, row)
+        if len(table.entries) > members.most:
+            # What is below can't be matched, and needn't be read.
+            return table
     members.finish()
     text.text = ""
     # Where some IDs are missing nobody knows yet whom the lists mean.

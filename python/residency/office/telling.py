@@ -1,6 +1,10 @@
 """What the command says: lines on standard output, and complaints on standard error, if anybody has these."""
 import os
+import re
 import sys
+
+# What steers a terminal, or turns the direction of a line, but for the end of one.
+STEERS = re.compile("[\x00-\x09\x0b-\x1f\x7f-\x9f\u2028-\u202e\u2066-\u2069]")
 
 
 def silence(number: int = 1) -> None:
@@ -32,7 +36,7 @@ def complain(line: str) -> None:
 
 
 def say(line: str) -> None:
-    """A line on standard output. OSError where that is closed or full."""
+    """A line on standard output, or several, of which nothing steers the terminal. OSError where that is closed or full."""
     if sys.stdout is None:
         raise OSError(0, "it is closed")
-    print(line)
+    print(STEERS.sub(lambda found: repr(found[0])[1:-1], line))

@@ -76,7 +76,7 @@ def readings(data: bytes, is_heading: Callable[[str], bool]) -> List[Tuple[str, 
     return [(name, names) for _, _, name, names in sorted(found)[:MOST_SETS]]
 
 
-def table_text(data: bytes, table: str, encoding: Optional[str], faults: Faults, is_heading: Callable[[str], bool] = lambda _: False) -> Text:
+def table_text(data: bytes, table: str, encoding: Optional[str], faults: Faults, is_heading: Callable[[str], bool]) -> Text:
     """A table's bytes as text. Where they are neither UTF-8 nor UTF-16, the first names with letters that aren't ASCII are
     noted; and where these aren't written as names are, the set has to be named."""
     told = len(faults)
@@ -103,7 +103,8 @@ def decoded(data: bytes, table: str, encoding: Optional[str], faults: Faults) ->
         text, found = decode(data, encoding)
         # Where most letters with accents are whole in UTF-8, it is a file of UTF-8 with a few broken bytes; in another
         # set each of these letters would be two or three odd ones.
-        if encoding is None and found in ("cp1252", "latin-1") and is_mostly_utf8(data):
+        broken = sum(byte > 127 for byte in OF_UTF8.sub(b"", data)) if encoding is None and found in ("cp1252", "latin-1") else len(data)
+        if len(OF_UTF8.findall(data)) > broken:
             data.decode("utf-8")
     except UnicodeDecodeError as error:
         tell_broken(data, error, table, faults)
@@ -112,11 +113,6 @@ def decoded(data: bytes, table: str, encoding: Optional[str], faults: Faults) ->
         faults.tell("file.no-text", table, 1, 1, {"title": title_of(encoding or "utf-8"), "error": str(error)})
         return Text("", encoding or "utf-8")
     return Text(text[1:] if text.startswith("\ufeff") else text, found)
-
-
-def is_mostly_utf8(data: bytes) -> bool:
-    whole = len(OF_UTF8.findall(data))
-    return whole > sum(byte > 127 for byte in OF_UTF8.sub(b"", data))
 
 
 def tell_broken(data: bytes, error: UnicodeDecodeError, table: str, faults: Faults) -> None:

@@ -124,13 +124,10 @@ class Tree:
         return sha(b"\2", len(self.texts).to_bytes(8, "big"), self.levels[-1][0] if self.texts else sha()).hex()
 
     def part(self, word: str, index: int) -> bytes:
-        """What a receipt says of the leaf of this index: the root, the opening and the text."""
-        path: List[str] = []
-        for depth, level in enumerate(self.levels[:-1]):
-            sibling = (index >> depth) ^ 1
-            path += [level[sibling].hex()] if sibling < len(level) else []
-        opens = ("opens", word, index, salt(self.secret, self.tag, index).hex(), *path)
-        return bytes_of([(word, len(self.texts), self.root()), opens]) + self.texts[index]
+        """What a receipt says of the leaf of this index, after the root: the opening and the text."""
+        path = "".join(f",{level[sibling].hex()}" for depth, level in enumerate(self.levels[:-1])
+                       for sibling in [(index >> depth) ^ 1] if sibling < len(level))
+        return f"opens,{word},{index},{salt(self.secret, self.tag, index).hex()}{path}\n".encode("ascii") + self.texts[index]
 
 
 class Sealed:
@@ -149,7 +146,8 @@ class Sealed:
         """The roots as they are published."""
         return Roots(len(self.members), *(tree.root() for tree in self.trees.values()))
 
-    def receipts(self) -> Dict[Tuple[str, str], bytes]:
+    def receipts(self) -> Iterator[Tuple[Tuple[str, str], bytes]]:
         """Each member's receipt, in order."""
-        return {member: bytes_of([("receipt", 2, *member)]) + b"".join(tree.part(word, index) for word, tree in self.trees.items())
-                for index, member in enumerate(self.members)}
+        heads = {word: bytes_of([(word, len(self.members), tree.root())]) for word, tree in self.trees.items()}
+        for index, member in enumerate(self.members):
+            yield member, bytes_of([("receipt", 2, *member)]) + b"".join(heads[word] + tree.part(word, index) for word, tree in self.trees.items())

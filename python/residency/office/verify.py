@@ -11,11 +11,12 @@ import sys
 from collections import Counter, defaultdict
 from dataclasses import dataclass, field
 from pathlib import Path
-from typing import Any, Callable, Dict, List, NamedTuple, Optional
+from typing import Any, Callable, Dict, List, NamedTuple, Optional, Sequence
 
 from ..errors import ResidencyError
 from ..key import read_key, write_key
 from ..market import Market
+from ..passes import STANDARD
 from ..program import run_program
 from . import folder, remade, rosters, rounds, seal, tree
 from .faults import MOST_SHOWN, OfficeError, counted, shown
@@ -23,6 +24,8 @@ from .outcome import Became, Details, Lists, outcome_of
 from .remade import Source
 from .running import Run
 from .sentences import cause, said_by
+from .steps import details_of
+from .tables import Table
 from .tree import Roots
 from .writing import cause_of
 
@@ -47,6 +50,10 @@ class FromTables(NamedTuple):
     market: Market
     details: Details
     digests: List[str]
+
+    @classmethod
+    def of(cls, tables: Sequence[Table], market: Market) -> "FromTables":
+        return cls(market, details_of(tables[1], market), [table.sha256 for table in tables])
 
 
 class Checked(NamedTuple):
@@ -148,6 +155,8 @@ class Verifier:
         rows = self.rows[folder.DOCKET]
         gone = [f"{'programme' if row[1:2] == ['P'] else 'resident'} {shown(','.join(row[2:]))}" for row in rows if row[0] == "W"]
         counts = Counter(row[0] for row in rows)
+        if counts["Q"] > STANDARD.programmes or counts["R"] > STANDARD.residents:
+            raise OfficeError("verify.large", 3, self.at)
         self.add("members", f"{counts['Q']:,} programmes and {counts['R']:,} residents")
         self.add("withdrawn", ", ".join(gone) or "nobody")
 
@@ -381,9 +390,15 @@ class Verifier:
                 self.opinion(self.checks())
             if manifest is not None:
                 source = self.source(manifest)
-                if source is not None:
+                if source is not None and not self.is_older():
                     self.again(source)
         return self.done
+
+    def is_older(self) -> bool:
+        """Whether an earlier version made the folder, by its receipts, which is told: this one makes other files."""
+        endings = {name[-4:] for name in self.there if folder.needs(name, {folder.RECEIPTS})}
+        return endings == {".csv"} and not self.tell("files", "an earlier version of office made this folder, whose receipts are .csv files: verify "
+                                                     "it with that version", False)
 
 
 def rows_of(text: str) -> List[List[str]]:

@@ -1,7 +1,9 @@
 """Which member a name means: one, or else nobody, and then who may be meant."""
+from typing import List
+
 from .. import naming
 from ..names import Member, Names
-from ..near import NearNames
+from ..near import NearNames, folded
 from .cells import name_of
 from .faults import OfficeError
 
@@ -29,3 +31,14 @@ def nobody(names: Names, text: str, side: str) -> OfficeError:
     everybody = list(names.members(side or None))
     near = NearNames(dict.fromkeys(one.name for one in everybody)).near(text)
     return OfficeError("member.nobody", 3, name=text, side=side, near=[one for one in everybody if one.name == near])
+
+
+def found(names: Names, part: str, side: str = "") -> List[Member]:
+    """The members whose name, ID or docket's name has words that begin with these, whatever the accents and capitals; none for no word."""
+    words = folded(part).split()
+
+    def has_all(one: Member) -> bool:
+        there = " ".join(["", *map(folded, (one.name, one.id, one.docket_name))])
+        return all(f" {word}" in there for word in words)
+
+    return [one for one in names.members(side or None) if words and has_all(one)]

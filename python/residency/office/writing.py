@@ -1,9 +1,11 @@
 """How files are written: under a name that nobody can guess until they are whole, never over what stands, and never through a
 link. All that the command writes goes through here."""
+import hashlib
 import os
 import stat
 from contextlib import suppress
 from pathlib import Path
+from typing import Iterable, Union
 
 from . import leftover, stopping
 from .faults import OfficeError
@@ -46,11 +48,15 @@ def draft_of(out: str) -> Path:
     return Path(os.path.abspath(out)).with_name(f".part-{secrets.token_hex(16)}")
 
 
-def write_new(path: Path, data: bytes, mode: int = SHARED) -> None:
-    """Writes a file where nothing stands, not even a link. OSError."""
+def write_new(path: Union[Path, str], data: Union[bytes, Iterable[bytes]], mode: int = SHARED) -> str:
+    """Writes a file, whole or part by part, where nothing stands, not even a link, and answers its digest. OSError."""
     number = os.open(path, os.O_WRONLY | os.O_CREAT | os.O_EXCL | os.O_NOFOLLOW | os.O_CLOEXEC, mode)
+    made = hashlib.sha256()
     with open(number, "wb") as file:
-        file.write(data)
+        for part in [data] if isinstance(data, bytes) else data:
+            made.update(part)
+            file.write(part)
+    return made.hexdigest()
 
 
 def settle(part: Path, target: Path) -> None:
