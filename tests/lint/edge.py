@@ -11,7 +11,7 @@ from typing import Dict, Iterator, List
 EDGE = {"__main__.py", "command.py", "line.py", "telling.py", "stopping.py"}
 # What the office hands out is written by these and by the page that checks a receipt, in phrases; what the command says of two
 # matches is in English still.
-WRITERS = {"compare.py", "letters.py", "page.py", "public.py", "rosters.py"}
+WRITERS = {"compare.py", "counter.py", "letters.py", "page.py", "phrases.py", "public.py", "rosters.py"}
 UNPHRASED = "a sentence that is no phrase"
 SENTENCE = re.compile(r"[A-Za-z]{2,},? [a-z]{2,}")
 # Markup, and the classes of a table's rows and cells.
@@ -103,6 +103,7 @@ def planted() -> List[str]:
               "stream.py": "import sys\nout = sys.stderr\n", "ends.py": "raise SystemExit(2)\n", "mask.py": "import os\nos.umask(7)\n", "streams.py": "from sys import stderr\n",
               "option.py": "told = 'say which (--heading)'\n", "written.py": "told = f'{name}: nothing was written'\n",
               "letters.py": "told = f'{count} letters were written'\n", "page.py": "told = '<p class=\"a b\">No place left</p>'\n",
+              "counter.py": "told = [name, f'{name}: it had no places']\n", "rosters.py": "heads = ['Last rank taken']\n", "public.py": "told = 'Check your receipt'\n",
               "error.py": "OfficeError(f'{path} is no folder', 1)\n", "text.py": "OfficeError('it is no folder')\n"}
     unseen = [f"planted and not told: {name}" for name, text in plants.items() if len(faults_of({name: text})) != 1]
     pages = ("<button>Check</button>", '<script>show("it had no places");</script>', "<script>show(`your ${mine} first choice`);</script>")

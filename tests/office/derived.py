@@ -123,7 +123,7 @@ def sentence(said: Sequence[str]) -> str:
     if len(kinds) == 1:
         every = {1: "The programme", 2: "Both programmes"}.get(len(said), f"All {len(said)} programmes")
         if kinds == ["it did"] and len(said) > 1:
-            return f"None of the {len(said)} programmes on your list ranked you."
+            return f"{'Neither' if len(said) == 2 else 'None'} of the {len(said)} programmes on your list ranked you."
         return f"{every} on your list {parts[0].split(' ', 1)[1]}."
     last = parts.pop()
     middle = parts[0] if len(parts) == 1 else ", ".join(parts) + ","

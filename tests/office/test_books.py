@@ -8,6 +8,7 @@ import subprocess
 import sys
 import unittest
 import zipfile
+from unittest import mock
 
 import planted
 from residency.office import sheets
@@ -53,12 +54,12 @@ class Cells(unittest.TestCase):
             '<row r="1"><c r="A1" t="s"><v>1</v></c><c r="B1" t="inlineStr"><is><r><t>Zo</t></r><r><t xml:space="preserve">ë </t>'
             '</r></is></c><c r="C1" t="str"><f>A1&amp;B1</f><v>a&lt;b</v></c><c r="D1" t="b"><v>1</v></c><c r="E1" t="b"><v>0</v></c>'
             '<c r="F1" t="e"><v>#DIV/0!</v></c><c r="G1" t="n"><v>7</v></c><c r="H1"><f>1+1</f><v>2</v></c>'
-            '<c r="I1" t="str"><f>""</f><v></v></c><c r="J1" t="d"><v>2026-03-01</v></c><c r="K1"><f>1+1</f></c></row>'
+            '<c r="I1" t="str"><f>""</f><v></v></c><c r="J1" t="d"><v>2026-03-01</v></c><c r="K1"><f>1+1</f></c><c r="L1" t="s"><v>2</v></c></row>'
         )
-        strings = "<si><t>no</t></si><si><r><t>To</t></r><r><t>kyo</t></r><rPh sb='0' eb='1'><t>phonetic</t></rPh></si>"
+        strings = "<si><t>no</t></si><si><r><t>To</t></r><r><t>kyo</t></r><rPh sb='0' eb='1'><t>phonetic</t></rPh></si>\n<si><t>Osaka</t></si>"
         self.assertEqual(
             self.read(text, strings),
-            [(1, ["Tokyo", "Zoë ", "a<b", "TRUE", "FALSE", "#DIV/0!", "7", "2", "", "2026-03-01", "#NO RESULT"])],
+            [(1, ["Tokyo", "Zoë ", "a<b", "TRUE", "FALSE", "#DIV/0!", "7", "2", "", "2026-03-01", "#NO RESULT", "Osaka"])],
         )
 
     def test_numbers(self) -> None:
@@ -79,7 +80,8 @@ class Cells(unittest.TestCase):
         wanted = ["46082", "2026-03-01", "46082", "2026-03-01", "46082", "46082", "2026-03-01", "2026-03-01 12:00", "00042", "5"]
         self.assertEqual(self.read(text, styles=styles), [(1, wanted)])
         day = (datetime.date(1904, 1, 1) + datetime.timedelta(46082)).isoformat()
-        self.assertEqual(self.read(text, styles=styles, date='<workbookPr date1904="1"/>')[0][1][1], day)
+        for word, wanted in (("1", day), ("true", day), ("0", "2026-03-01"), ("false", "2026-03-01")):
+            self.assertEqual(self.read(text, styles=styles, date=f'<workbookPr date1904="{word}"/>')[0][1][1], wanted, word)
 
     def test_places(self) -> None:
         """Cells stand where they say, or after one another; rows that are left out keep their numbers."""
@@ -113,6 +115,69 @@ class Cells(unittest.TestCase):
                     sheets.sheet_of(broken)
                 except sheets.BadBook as fault:
                     self.assertTrue(cause(Fault(fault.code, "residents", values={**fault.values, "table": "residents"})).isprintable())
+
+
+class Bombs(unittest.TestCase):
+    """A workbook over a limit is refused by a limit that is told, before it costs more than its bytes."""
+
+    def refused(self, most: int, what: str, *words: str, **more: str) -> None:
+        with self.assertRaises(sheets.BadBook) as caught:
+            sheets.sheet_of(sheet(*words, **more))
+        fault = caught.exception
+        self.assertEqual((fault.code, fault.values), ("file.too-many", {"most": most, "what": what}))
+        self.assertEqual(cause(Fault(fault.code, "residents", values=fault.values)), f"the workbook has more than {most:,} {what}, and no more are read")
+
+    def test_a_tag_of_a_megabyte(self) -> None:
+        for size in (900_000, 1_300_000):
+            for text in ('<row x="{}"/>', "<{}/>", "<!--{}-->", "<?a {}?>", "<row {}/>", '<c xmlns="{}"/>'):
+                text = text.format((" " if text == "<row {}/>" else "a") * size)
+                if size < sheets.MOST_OF_TAG:
+                    self.assertEqual(sheets.sheet_of(sheet(text)).rows, [])
+                else:
+                    self.refused(1 << 20, "bytes in one tag", text)
+        # A text of any length is no tag.
+        self.assertEqual(len(sheets.sheet_of(sheet(f"<row><c t='str'><v>{'a' * 3_000_000}</v></c></row>")).rows[0][1][0]), 3_000_000)
+
+    def test_tags_in_one_another(self) -> None:
+        self.assertEqual(sheets.sheet_of(sheet("<a>" * 98 + "</a>" * 98 + "<a/>" * 200)).rows, [])
+        self.refused(100, "tags within one another", "<a>" * 99 + "</a>" * 99)
+        self.refused(100, "tags within one another", "<row/>", "<rPh>" * 200 + "</rPh>" * 200)
+
+    def test_many_tags_names_and_sheets(self) -> None:
+        with mock.patch.object(sheets, "MOST_TAGS", 100):
+            self.refused(100, "tags", "<row/>" * 100)
+        for name in ("<c{}/>", '<c a{}=""/>'):
+            self.refused(10_000, "names of tags and attributes", "".join(name.format(number) for number in range(20_000)))
+        self.refused(1_000, "sheets", "<row/>", names='<sheet name="Table" r:id="b"/>' * 1_001)
+
+    def test_columns_that_are_hidden_again(self) -> None:
+        hidden = '<col min="1" max="16384" hidden="1"/>'
+        self.assertEqual(len(sheets.sheet_of(sheet(hidden + "<row><c><v>1</v></c></row>")).hidden_columns), 16_384)
+        self.refused(16_384, "hidden columns", hidden * 2)
+
+    def test_formats(self) -> None:
+        """Each is looked at once, however many styles have it, and a sign that opens a part and isn't closed costs no more than others."""
+        styles = '<numFmts><numFmt numFmtId="164" formatCode="{}"/></numFmts><cellXfs>' + '<xf numFmtId="164"/>' * 300 + "</cellXfs>"
+        with mock.patch.object(sheets.Book, "writes", autospec=True, return_value=sheets.number_text) as writes:
+            sheets.sheet_of(sheet("<row/>", styles=styles.format("0.0")))
+        self.assertEqual(writes.call_count, 1)
+        for sign in ("[", "&quot;"):
+            self.assertEqual(sheets.sheet_of(sheet('<row><c s="7"><v>5</v></c></row>', styles=styles.format(sign * 150_000))).rows, [(1, ["5"])])
+
+    def test_long_numbers(self) -> None:
+        """A number of five thousand digits is none of a row, of a text or of a style, and isn't counted."""
+        many = "7" * 5000
+        for text, code in ((f'<row r="{many}"/>', "file.rows"), (f'<row><c t="s"><v>{many}</v></c></row>', "file.broken-text")):
+            with self.assertRaises(sheets.BadBook) as caught:
+                sheets.sheet_of(sheet(text, "<si><t>a</t></si>"))
+            self.assertEqual(caught.exception.code, code)
+        text = f'<col min="{many}" max="{many}" hidden="1"/><row><c s="{many}"><v>5</v></c><c><v>{many}</v></c></row>'
+        self.assertEqual(sheets.sheet_of(sheet(text)).rows, [(1, ["5", "inf"])])
+
+    def test_names_of_another_space(self) -> None:
+        """Tags with a word before a colon are the same ones, and what the word stands for isn't said again with each."""
+        text = f'<x:row xmlns:x="{"u" * 900_000}"><x:c><x:v>7</x:v></x:c>' + "<x:a/>" * 20_000 + "</x:row>"
+        self.assertEqual(sheets.sheet_of(sheet(text)).rows, [(1, ["7"])])
 
 
 class Runs(OfficeTest):

@@ -26,8 +26,8 @@ def said_of(resident: str, gone: List[str]) -> List[str]:
             said = "it did not rank you"
         else:
             places, last = made.places[programme], made.rank(made.members(programme)[-1])
-            said = (f"it ranks this resident {derived.nth(ranked.index(resident) + 1)}; its {places} {'place' if places == 1 else 'places'} went to "
-                    f"residents whom it ranks before, the last of them {derived.nth(last)}")
+            said = (f"it ranks you {derived.nth(ranked.index(resident) + 1)}; its {places} {'place' if places == 1 else 'places'} went to "
+                    f"residents whom it ranks before you, the last of them {derived.nth(last)}")
         rows.append(f"{choice}. {programme}: {said}")
     return rows
 
@@ -46,10 +46,10 @@ class Counter(OfficeTest):
         self.assertEqual(self.told(self.out, "Haddad, Omar"), [
             "Omar Haddad",
             "We are sorry that you are not matched. Both programmes on your list filled all of their places with residents whom they rank before you.",
-            "1. East Ward: it ranks this resident 2nd; its 1 place went to residents whom it ranks before, the last of them 1st",
-            "2. South Hospital: it ranks this resident 3rd; its 1 place went to residents whom it ranks before, the last of them 2nd"])
+            "1. East Ward: it ranks you 2nd; its 1 place went to residents whom it ranks before you, the last of them 1st",
+            "2. South Hospital: it ranks you 3rd; its 1 place went to residents whom it ranks before you, the last of them 2nd"])
         self.assertEqual(self.told(self.out, "zoe-bronte", "West Infirmary"), [
-            "Zoë Brontë", "You are matched with East Ward, the 1st of the 2 on your list.", "West Infirmary: it is not on this list"])
+            "Zoë Brontë", "You are matched with East Ward, the 1st of the 2 on your list.", "West Infirmary: it is not on your list"])
         self.assertEqual(self.told(self.out, "Rosa Rossi"), ["Rosa Rossi", "You are not matched, since your list is empty."])
         for words, cause in ((("Omar Hadad",), "no resident is named Omar Hadad; is it Omar Haddad?"), (("East Ward",), "no resident is named East Ward"),
                              (("Omar Haddad", "Est Ward"), "Est Ward")):
@@ -72,7 +72,7 @@ class Counter(OfficeTest):
         self.assertEqual((said.status, said.out), (3, ""))
         self.assertEqual(self.told(out, "8"), [
             "Ana (8)", "Es tut uns leid, dass Sie keinen Platz bekommen haben. Das Programm auf Ihrer Liste hat alle Plätze an Personen gegeben, die dort vor Ihnen stehen.",
-            "1. North: führt diese Person an 2. Stelle; der Platz ging an eine Person davor (Plätze: 1, letzter Rang: 1.)"])
+            "1. North: führt Sie an 2. Stelle; der Platz ging an eine Person vor Ihnen (Plätze: 1, letzter Rang: 1.)"])
         path = self.folder / "answer.txt"
         self.assertEqual(self.told(out, "7", "--out", path), [f"written to {path}"])
         self.assertEqual(path.read_text(encoding="utf-8"), "Ana (7)\nSie haben einen Platz: North. Auf Ihrer Liste ist das die 1. Wahl von 1.\n"

@@ -176,6 +176,13 @@ class Rows(OfficeTest):
             self.assertTrue(is_remark(Entry(name, "", 9, 1), table), name)
         for name in ("Rosa Rossi", "Omar van der Berg", "Sammy Davis Jr.", "María José de los Ángeles Ruiz", "李 娜", "Anne-Marie St. Clair"):
             self.assertFalse(is_remark(Entry(name, "", 9, 1), table), name)
+        # Too many words, too many letters, and one word alone, each by itself and at its bound.
+        seven, long = "Ana Mai Rosa Zoe Eva Kim Lee", "Konstantinopolitanska-Hohenlohe Wilhelmina-Alexandrina Maria"
+        self.assertEqual((len(seven.split()), len(long)), (7, 60))
+        for name, wanted in ((seven, True), (seven[:-4], False), (f"{long}e", True), (long, False), ("Rosalia", True)):
+            self.assertEqual(is_remark(Entry(name, "", 9, 1), table), wanted, name)
+        table.entries = table.entries[:3]
+        self.assertFalse(is_remark(Entry("Rosalia", "", 9, 1), table))
         self.assertTrue(is_remark(Entry("Rosa Rossi", "", 9, 1, after_blank=True), table))
         # What all names of a table have is no sign of a remark.
         table.entries = [Entry(f"R{number}", "", number, 1) for number in range(2, 12)]

@@ -1,10 +1,12 @@
 """Texts of tables that would be markup, or steer a terminal; and names that a system keeps for itself."""
+import json
 import re
 import unicodedata
 from html.parser import HTMLParser
 from typing import List, Optional, Tuple
 
 from residency.office import folder
+from residency.office.phrases import FOLDER
 from support import OfficeTest, office
 
 # By a member's plain name what stands after it instead of nothing: markup, quotes, what CSV and templates use, and marks of direction.
@@ -54,26 +56,81 @@ def is_plain(c: str) -> bool:
     return unicodedata.category(c) not in ("Cc", "Cf", "Zl", "Zp")
 
 
+# What is in a text of the office's own, in each phrase, the sender and the signature: it ends what it stands in, were it markup.
+OWN = "</script><b class='x'>&amp;\"<!--"
+# The phrases that are no texts.
+VALUES = ("called", "plurals", "thousands", "ordinals", "months", "sorted-after")
+
+
 class Markup(OfficeTest):
-    def elements(self, marks: Tuple[str, ...], out: str) -> List[Tuple[str, List[Tuple[str, ...]]]]:
-        """Of each page of a run its elements; what the run says has nothing that steers a terminal."""
+    def settings(self, own: str) -> List[str]:
+        """A file of settings and one of phrases with this in each text."""
+        lines = [line if line.startswith((*VALUES, "#")) or not line else f"{line}{own}" for line in (FOLDER / "en.txt").read_text(encoding="utf-8").splitlines()]
+        return ["--settings", self.write("own.ini", f"[match]\nsender = The office{own}\nappeals = Ask{own}\nsignature = K. Lee{own}\n"),
+                "--language", self.write("own.txt", "\n".join(lines))]
+
+    def said(self, *words: object) -> str:
+        """A command that has to be done; nothing of what it says steers a terminal."""
+        said = office(*words)
+        self.assertEqual((said.status, said.err), (0, ""), (words, said))
+        self.assertEqual([c for c in said.out if not is_plain(c) and c != "\n"], [], words)
+        return said.out
+
+    def elements(self, marks: Tuple[str, ...], out: str, is_sealed: bool) -> List[Tuple[str, List[Tuple[str, ...]]]]:
+        """Of each page of a run, and of the folders that come of it, its elements."""
+        at, tables = self.folder / out, self.tables(*tables_with(marks))
+        at.mkdir()
         template = self.write("letter.txt", TEMPLATE if any(marks) else re.sub("<.*?>", "", TEMPLATE))
-        said = office("run", *self.tables(*tables_with(marks)), "--out", str(self.folder / out), "--date", "2026-03-20", "--title",
-                      f"Match{''.join(mark for mark in marks[:2] if mark.isascii())}", "--keep", "Town", "--template", template, "--cut-offs")
-        self.assertEqual((said.status, said.err), (0, ""), said)
-        self.assertEqual([c for c in said.out if not is_plain(c) and c != "\n"], [])
-        pages = [(path.name, Elements(path.read_text(encoding="utf-8"))) for path in sorted((self.folder / out).rglob("*.html"))]
+        own = self.settings(OWN if any(marks) else "")
+        title = ["--title", f"Match{''.join(mark for mark in marks[:2] if mark.isascii())}", "--date", "2026-03-20"]
+        if is_sealed:
+            self.said("seal", *tables, "--out", at / "sealed", "--keep", "Town", *title, *own)
+            self.said("run", at / "sealed", "--out", at / "match", *title, "--cut-offs", *own[:2])
+        else:
+            self.said("run", *tables, "--out", at / "match", *title, "--keep", "Town", "--template", template, *own)
+        self.said("withdraw", at / "match", f"0{marks[0]}", "--out", at / "again", "--date", "2026-03-21")
+        self.said("compare", at / "match", at / "again", "--names")
+        self.said("why", at / "match", f"1{marks[1 % len(marks)]}")
+        self.said("changes", at / "again", *tables)
+        self.said("settings", at / "match", "--out", at / "next.ini")
+        self.said("letters", at / "match", "--out", at / "letters", *own)
+        self.assertRegex(self.said("verify", at / "again").splitlines()[-1], "^[0-9]+ files made again, ")
+        pages = [(str(path.relative_to(at)), Elements(path.read_text(encoding="utf-8"))) for path in sorted(at.rglob("*.html"))]
         for name, page in pages:
-            self.assertIn("Adler" + "".join(filter(is_plain, marks[1])), page.text, name)
+            if "public" not in name:
+                self.assertIn("North" + "".join(filter(is_plain, marks[0])), page.text, name)
             self.assertEqual([c for c in page.text if not is_plain(c) and c != "\n"], [], name)
         return [(name, page.elements) for name, page in pages]
 
     def test_no_text_of_a_table_becomes_markup(self) -> None:
-        plain = self.elements(("",) * len(MARKS), "plain")
-        self.assertGreater(len(plain), 1)
-        for turn in range(len(MARKS)):
-            with self.subTest(turn=turn):
-                self.assertEqual(self.elements(MARKS[turn:] + MARKS[:turn], f"out-{turn}"), plain)
+        """Nor does one of the office's own: a title, a template, a sender, a phrase."""
+        for is_sealed in (False, True):
+            plain = self.elements(("",) * len(MARKS), f"plain-{is_sealed}", is_sealed)
+            self.assertGreater(len(plain), 5)
+            for turn in range(is_sealed, len(MARKS), 2):
+                with self.subTest(turn=turn):
+                    self.assertEqual(self.elements(MARKS[turn:] + MARKS[:turn], f"out-{turn}", is_sealed), plain)
+
+
+class Steered(OfficeTest):
+    def test_names_of_a_strangers_folder(self) -> None:
+        """Signs that no table brings into a folder, but that a key may have: no command that reads it gives them to a terminal."""
+        out, again = self.run_tables(), self.folder / "again"
+        self.assertEqual(office("withdraw", out, "Ana Silva", "--out", again).status, 0)
+        for at in (out, again):
+            key = (at / "key.csv").read_text(encoding="utf-8")
+            for name, sign in (("South", "\x1b[2J"), ("Omar", "\u202e"), ("North", "\x9b2J"), ("Kim", "\t\x07"), ("Zoë", "\u2028")):
+                key = key.replace(name, f"{name}{sign}")
+            (at / "key.csv").write_text(key, encoding="utf-8")
+            manifest = json.loads((at / "manifest.json").read_text(encoding="utf-8"))
+            manifest["sha256"]["key.csv"] = folder.digest(key.encode("utf-8"))
+            (at / "manifest.json").write_text(json.dumps(manifest), encoding="utf-8")
+        for number, words in enumerate((["compare", out, again, "--names"], ["why", out, "Ana Silva"], ["why", out, "Ana Silva", "--letter"], ["why", out, "Kim"],
+                                        ["withdraw", out, "Ana Silva", "--out", self.folder / "more"], ["changes", out, *self.tables()], ["verify", out],
+                                        ["settings", out, "--out", self.folder / "own.ini"], ["letters", out, "--preview", "1"], ["next", out, "--out", self.folder / "next"])):
+            said = office(*words)
+            self.assertEqual([c for c in said.out + said.err if not is_plain(c) and c != "\n"], [], words)
+            self.assertEqual("\\x1b[2J" in said.out + said.err, number in (0, 1, 2, 4, 5, 8), words)
 
 
 class FileNames(OfficeTest):

@@ -200,11 +200,11 @@ class Table(Given):
                 if any(now[path] != files[path] for path in files if path.startswith(begin) and not Path(path).stem.endswith(theirs)):
                     self.assertNotEqual(told, "", begin)
                     gives[begin].append(told)
-        says = {"": "nothing", "the result of others": "results of others in numbers"}
+        says = {"": "nothing", "the result of others": "counts of the results of other members"}
         ranks = "the rank of who is refused, and the last rank that got a place"
-        made = [LINE.format("File", "Who is given it", "What it gives away of others"), "|---|---|---|"]
+        made = [LINE.format("File", "Who gets it", "What it tells about other members"), "|---|---|---|"]
         for begin, title, who in FILES:
-            told = [("the last rank that got a place" if begin.startswith("public") else "for each `full`, the resident's rank and the last rank "
+            told = [("the last rank that got a place" if begin.startswith("public") else "for each reason `full`, the resident's rank and the last rank "
                      "that got a place") if one == ranks else says[one] for one in gives[begin]]
             made.append(LINE.format(title, who, " and ".join(told) or "nothing but roots"))
         self.assertIn("\n".join(made), (TOP / "docs" / "sealed.md").read_text(encoding="utf-8"), "\n".join(made))

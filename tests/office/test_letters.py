@@ -185,7 +185,7 @@ class Said(OfficeTest):
             self.letter(out, "omar-haddad"),
         )
         self.assertIn(
-            "\nWe are sorry that you are not matched. None of the 2 programmes on your\nlist ranked you.\n",
+            "\nWe are sorry that you are not matched. Neither of the 2 programmes on\nyour list ranked you.\n",
             self.letter(out, "fatima-kovacs"),
         )
         self.assertIn(
@@ -412,7 +412,7 @@ class Kept(OfficeTest):
         letters = Letters_(market, outcome, about, "\n\n".join(f"{field} is ${field}" for field in ("name", *fields)))
         for name, article in zip(("Ana", "Bo"), Tree(letters.page()).root.all("article")):
             wanted = [f"name is {name}"] + [f"{field} is {text}" for field, text in zip(fields, kept[name])]
-            self.assertEqual(letters.all()[name.lower()].split("\n\n"), wanted)
+            self.assertEqual(letters.letter(letters.outcome.residents[name]).split("\n\n"), wanted)
             self.assertEqual([one.text() for one in article.all("p")], wanted)
 
     def test_names_of_fields(self) -> None:

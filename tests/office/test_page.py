@@ -237,6 +237,7 @@ class Sample(PageTest):
 class Other(PageTest):
     def test_kinds_of_unmatched_and_withdrawn(self) -> None:
         self.run_tables(out="first")
+        self.assertEqual([one.text() for one in self.section(self.page(self.folder / "first"), "withdrawn").all("p")], ["Nobody."])
         office("withdraw", self.folder / "first", "Zoë Brontë", "East Ward", "--out", self.folder / "out")
         root = self.page(self.folder / "out")
         names = lambda name: [(part.text()) for part in self.section(root, name).all("h3", "li")]  # noqa: E731

@@ -17,9 +17,9 @@ BLANK, NARROW = "\u00a0", "\u202f"
 # Of each language by hand: how some numbers, a part, ordinals and a day are written, and how names sort.
 WRITTEN = {
     "en": ("1,234,567", "57%", ["1st", "2nd", "3rd", "4th", "11th", "12th", "13th", "21st", "112th"], ["1 March 2026", "20 May 2026"]),
-    "de": ("1.234.567", "57 %", ["1.", "2.", "3.", "4.", "11.", "12.", "13.", "21.", "112."], ["1. März 2026", "20. Mai 2026"]),
-    "es": ("1.234.567", "57 %", ["1.ª", "2.ª", "3.ª", "4.ª", "11.ª", "12.ª", "13.ª", "21.ª", "112.ª"], ["1 de marzo de 2026", "20 de mayo de 2026"]),
-    "fr": (f"1{NARROW}234{NARROW}567", "57 %", ["1er", "2e", "3e", "4e", "11e", "12e", "13e", "21e", "112e"], ["1er mars 2026", "20 mai 2026"]),
+    "de": ("1.234.567", f"57{BLANK}%", ["1.", "2.", "3.", "4.", "11.", "12.", "13.", "21.", "112."], ["1. März 2026", "20. Mai 2026"]),
+    "es": ("1.234.567", f"57{BLANK}%", ["1.ª", "2.ª", "3.ª", "4.ª", "11.ª", "12.ª", "13.ª", "21.ª", "112.ª"], ["1 de marzo de 2026", "20 de mayo de 2026"]),
+    "fr": (f"1{NARROW}234{NARROW}567", f"57{BLANK}%", ["1er", "2e", "3e", "4e", "11e", "12e", "13e", "21e", "112e"], ["1er mars 2026", "20 mai 2026"]),
     "pl": (f"1{BLANK}234{BLANK}567", "57%", ["1.", "2.", "3.", "4.", "11.", "12.", "13.", "21.", "112."], ["1 marca 2026", "20 maja 2026"]),
 }
 SORTED = {
@@ -30,6 +30,12 @@ SORTED = {
 COUNTED = {"pl": {0: "osób", 1: "osoba", 2: "osoby", 4: "osoby", 5: "osób", 12: "osób", 14: "osób", 22: "osoby", 25: "osób", 112: "osób", 102: "osoby"},
            "fr": {0: "personne", 1: "personne", 2: "personnes"}, "en": {0: "residents", 1: "resident", 2: "residents"},
            "de": {0: "Personen", 1: "Person", 2: "Personen"}, "es": {0: "personas", 1: "persona", 2: "personas"}}
+# Of each language the words of another form of address than its own, and of one for a single reader where a programme is several.
+OTHER_ADDRESS = {
+    "de": r"\b([Dd]u|[Dd]ir|[Dd]ich|[Dd]ein\w*|[Ee]uch|[Ee]uer)\b", "fr": r"\b([Tt]u|[Tt]oi|[Tt]on|[Tt]es)\b|\bt’",
+    "es": r"\b([Tt]ú|[Tt]us?|[Tt]e|[Tt]i|[Vv]uestr\w*|[Oo]s)\b", "pl": r"\b([Tt]y|Ci|Cię|Tob\w*|[Tt]w[oó]j\w*|\w*(?:asz|esz|isz|ysz)|jesteś|\w+[łl][aeo]ś)\b",
+}
+OF_ONE = {"es": r"\busted\b|\ble\b|\b(?:Abra|Elija|Compare)\b", "pl": r"\bPan(?:a|u|i)?\b|\bProszę\b"}
 LETTER = """\
 1. März 2026
 
@@ -46,18 +52,18 @@ Ihre Liste, wie sie verwendet wurde:
 
 In den Unterlagen der Zuteilung heißen Sie omar-haddad.
 """
-FRENCH = """\
+FRENCH = f"""\
 1er mars 2026
 
 Ana Silva
 
-Vous avez une place : South Hospital.
+Vous avez une place{BLANK}: South Hospital.
 C’est le 1er choix de votre liste, qui en compte 2.
 
-Votre liste, telle qu’elle a été utilisée :
+Votre liste, telle qu’elle a été utilisée{BLANK}:
 
-  1. South Hospital : vous avez une place ici
-  2. North Clinic : sans objet, car vous avez une place que vous préférez
+  1. South Hospital{BLANK}: vous avez une place ici
+  2. North Clinic{BLANK}: sans objet, car vous avez une place que vous préférez
 
 Dans les fichiers de l’appariement, votre nom est ana-silva.
 """
@@ -87,6 +93,24 @@ class Files(OfficeTest):
         same = {key for key, said in english().texts.items() if re.search("[a-z]{5}", re.sub(r"\{[^}]*\}", "", said))
                 and sum(named(other).texts[key] == said for other in languages()) > 2}
         self.assertEqual(same - {"page.programmes", "page.link.programmes"}, set())
+
+    def test_one_form_of_address(self) -> None:
+        """Each language has one for residents, and one for programmes, whose letters share some of the sentences."""
+        for language, other in OTHER_ADDRESS.items():
+            said = {key: re.sub(r"\{[^}]*\}", "", text) for key, text in named(language).texts.items() if key != "check.button"}
+            self.assertEqual({key: text for key, text in said.items() if re.search(other, text)}, {}, language)
+            shared = {key: text for key, text in said.items() if key.startswith("programme.") or key in ("letter.docket-name", "letter.sealed", "letter.check")}
+            self.assertEqual({key: text for key, text in shared.items() if re.search(OF_ONE.get(language, "(?!)"), text)}, {}, language)
+
+    def test_no_line_begins_with_a_sign(self) -> None:
+        """A blank before a colon, a semicolon or a sign of per cent breaks no line."""
+        for language in languages():
+            self.assertEqual([key for key, text in named(language).texts.items() if key != "ordinals" and re.search(" [:;%!?]", text)], [], language)
+
+    def test_letters_without_a_plain_form(self) -> None:
+        """Each sorts as the letters that it is written with where it is missing."""
+        for letters, plain in zip("ß æ œ ø ł đ ð þ ı Ø Æ Þ".split(), "ss ae oe o l d d th i o ae th".split()):
+            self.assertEqual(named("en").alphabetical(letters), (plain, letters))
 
     def test_a_file_at_fault(self) -> None:
         """Each kind of mistake at its line, and all that is missing by name."""
@@ -166,7 +190,7 @@ class Handed(OfficeTest):
         for folder in ("sealed", "out"):
             page = Tree((self.folder / folder / "public" / "check.html").read_text(encoding="utf-8")).root
             self.assertEqual([(one.attributes["lang"], one.all("title")[0].text()) for one in page.all("html")],
-                             [("pl", "Sprawdź swoje pokwitowanie: Przydział")])
+                             [("pl", "Sprawdzenie pokwitowania: Przydział")])
             self.assertEqual(office("verify", self.folder / folder).status, 0)
 
     def test_phrases_of_ones_own(self) -> None:

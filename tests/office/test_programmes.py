@@ -8,19 +8,20 @@ from support import PROGRAMMES, RESIDENTS, OfficeTest, office
 from test_counter import said_of
 from test_page import Tree
 
+BLANK = "\u00a0"
 # Of each language the sentences of a letter to a programme: filled of places, unfilled, the head of the list, without anybody, withdrawn,
 # without places, its name in the docket, and the day.
 WORDS = {
     "en": ("{0} of your {1} places are filled.", "{0} places stay unfilled.", "Your residents, each with the rank on your list:", "No resident is matched with you.",
            "You withdrew from the match, and so you have no residents in it.", "You had no places in the match.", "In the docket that was matched you are {}.",
            "20 March 2026"),
-    "de": ("Besetzt sind {0} von {1} Plätzen.", "Frei bleiben {0} Plätze.", "Ihre Personen, jede mit dem Rang auf Ihrer Liste:", "Niemand hat einen Platz bei Ihnen.",
+    "de": ("Besetzt sind {0} von {1} Plätzen.", "Frei bleiben {0} Plätze.", "Die Personen, die Ihnen zugeteilt sind, jede mit dem Rang auf Ihrer Liste:", "Niemand hat einen Platz bei Ihnen.",
            "Sie haben Ihre Teilnahme zurückgezogen und bekommen deshalb niemanden.", "Sie hatten keine Plätze in der Zuteilung.",
            "In den Unterlagen der Zuteilung heißen Sie {}.", "20. März 2026"),
     "es": ("{0} plazas ocupadas de {1}.", "{0} plazas quedan libres.", "Las personas asignadas, cada una con su posición en la lista de ustedes:", "Nadie tiene plaza con ustedes.",
            "Ustedes se retiraron de la asignación y por eso no reciben a nadie.", "Ustedes no tenían plazas en la asignación.",
            "En los archivos de la asignación su nombre es {}.", "20 de marzo de 2026"),
-    "fr": ("{0} places prises sur {1}.", "{0} places restent libres.", "Les personnes affectées chez vous, chacune avec son rang sur votre liste :", "Personne n’a de place chez vous.",
+    "fr": ("{0} places prises sur {1}.", "{0} places restent libres.", f"Les personnes affectées chez vous, chacune avec son rang sur votre liste{BLANK}:", "Personne n’a de place chez vous.",
            "Vous vous êtes retiré de l’appariement et n’y recevez donc personne.", "Vous n’aviez pas de place dans l’appariement.",
            "Dans les fichiers de l’appariement, votre nom est {}.", "20 mars 2026"),
     "pl": ("Zajęte miejsca: {0} z {1}.", "Wolne miejsca: {0}.", "Przydzielone osoby, każda z pozycją na Państwa liście:", "Nikt nie ma u Państwa miejsca.",
@@ -122,7 +123,7 @@ class Answers(OfficeTest):
         made = derived.match(derived.tables(PROGRAMMES, RESIDENTS))
         for resident, listed in made.resident_lists.items():
             said = office("why", out, resident, "--letter", "--date", "2026-04-01")
-            rows = [f"  {row}".replace("ranks this resident", "ranks you").replace("whom it ranks before,", "whom it ranks before you,") for row in said_of(resident, [])]
+            rows = [f"  {row}" for row in said_of(resident, [])]
             list_ = ["Your list, as it was matched:", "", *rows] if rows else ["Your list, as it was matched, is empty."]
             self.assertEqual((said.status, said.err), (0, ""))
             head, outcome, *rest = said.out.split("\n\n", 2)[0], said.out.split("\n\n")[1:3], said.out.split("\n\n", 3)[3]
@@ -140,7 +141,7 @@ class Answers(OfficeTest):
         out = self.run_tables("Programme,Places,1,2,3\nNorth,1,7,8,9\nSouth,0,,,\n", residents, "de", "--language", "de", "--language-column", "Sprache",
                               "--settings", settings)
         said = office("why", out, "8", "--letter", "--date", "2026-04-01")
-        self.assertEqual(said.out, """\
+        self.assertEqual(said.out, f"""\
 Die Stelle
 
 1er avril 2026
@@ -151,9 +152,9 @@ Nous regrettons que vous n’ayez pas obtenu de place. Le programme de
 votre liste a donné toutes ses places à des personnes classées avant
 vous.
 
-Votre liste, telle qu’elle a été utilisée :
+Votre liste, telle qu’elle a été utilisée{BLANK}:
 
-  1. North : vous classe au 2e rang ; sa place est allée à une personne classée avant vous (places : 1, dernier rang : 1er)
+  1. North{BLANK}: vous classe au 2e rang{BLANK}; sa place est allée à une personne classée avant vous (places{BLANK}: 1, dernier rang{BLANK}: 1er)
 
 Dans les fichiers de l’appariement, votre nom est 8.
 
@@ -162,7 +163,7 @@ K. Lee
         path = self.folder / "letter.txt"
         said = office("why", out, "9", "South", "--letter", "--out", path, "--date", "2026-04-01")
         self.assertEqual((said.status, said.out), (0, f"written to {path}\n"))
-        self.assertIn("South: nie ma go na Twojej liście\n", read(path))
+        self.assertIn("South: nie ma go na Pana/Pani liście\n", read(path))
         self.assertEqual(stat.S_IMODE(path.stat().st_mode), 0o600)
         said = office("why", out, "9", "--letter", "--out", path)
         self.assertEqual((said.status, said.out), (2, ""))

@@ -1,5 +1,6 @@
 """What the command never does: run code of the folder where it is started, write over what stands or through a link, leave half
 of anything behind, or end by a traceback, whenever it is stopped."""
+import fcntl
 import os
 import resource
 import shutil
@@ -380,6 +381,29 @@ class Stops(OfficeTest):
         )
         done = subprocess.run([sys.executable, "-c", text, str(TOP / "python")], capture_output=True)
         self.assertEqual((done.returncode, done.stdout, done.stderr), (0, b"3 1 0\n", b""))
+
+    def test_nothing_is_cleared_while_another_looks(self) -> None:
+        """While another command holds the folder around, what was left is its to clear."""
+        left = self.folder / f".part-{'0' * 32}"
+        left.mkdir()
+        around = os.open(self.folder, os.O_RDONLY)
+        self.addCleanup(os.close, around)
+        self.assertTrue(leftover.is_held(around))
+        with mock.patch.object(leftover, "MOST_TRIES", 2), leftover.made(self.folder / f".part-{'1' * 32}"):
+            self.assertTrue(left.exists())
+        fcntl.flock(around, fcntl.LOCK_UN)
+        with leftover.made(self.folder / f".part-{'1' * 32}"):
+            self.assertFalse(left.exists())
+
+    def test_a_stop_before_python_is_there(self) -> None:
+        """Ctrl-C while one of the scripts starts ends it with one line: that of a clone, of a release, and of a wheel."""
+        fake = self.folder / "readlink"
+        fake.write_text("#!/bin/sh\ntrap '' INT\nkill -INT 0\nexec /usr/bin/readlink \"$@\"\n")
+        fake.chmod(0o755)
+        known = {**os.environ, "PATH": f"{self.folder}:{os.environ['PATH']}"}
+        for line in ([str(TOP / "office")], [str(TOP / "packaging" / "office")], ["/bin/sh", str(TOP / "python" / "residency" / "office" / "start.sh")]):
+            done = subprocess.run([*line, "--help"], env=known, capture_output=True, start_new_session=True, timeout=60)
+            self.assertEqual((done.returncode, done.stdout, done.stderr), (1, b"", b"office: interrupted\n"), line)
 
     def test_a_stop_that_no_exception_carries_out(self) -> None:
         """A stop in the midst of giving up an object is written by Python as ignored; here it ends the command all the same."""

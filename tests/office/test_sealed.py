@@ -14,7 +14,8 @@ from pathlib import Path
 from typing import Dict, List
 from unittest import mock
 
-from residency.errors import ProgramFailed
+from residency import find_program
+from residency.errors import ProgramFailed, ProgramMissing
 from residency.office import seal as sealing
 from support import PROGRAMMES, RESIDENTS, SAMPLES, TOP, OfficeTest, office, spawn
 from test_safe import SLOW
@@ -133,6 +134,13 @@ class Written(Sealed):
         self.assertEqual((match / "matches.csv").read_bytes(), (plain / "matches.csv").read_bytes())
         self.assertIn("a@x.org", (match / "matches.csv").read_text(encoding="utf-8"))
 
+    def test_kept_columns_alone(self) -> None:
+        """They are handed on where nobody's family name is known, and the folder says which they are."""
+        sealed = self.sealed("--keep", "Email", residents="Name,Email,Rank 1\nKim Lee,k@x.org,East Ward\nZoë Brontë,,East Ward\n",
+                             programmes="Programme,Places,Rank 1\nEast Ward,1,Kim Lee\n")
+        self.assertEqual(json.loads((sealed / "manifest.json").read_text(encoding="utf-8"))["details"], ["Email"])
+        self.assertIn(",k@x.org", (self.matched(sealed) / "matches.csv").read_text(encoding="utf-8"))
+
     def test_real_names(self) -> None:
         """Each receipt is sealed with the real name and the ID, as the key has them, and tells them first."""
         names = ['Seán "Shay" O\'Brien', "Lee, Kim", "=Ana", "李雷", "Zoë Brontë"]
@@ -179,7 +187,11 @@ class Written(Sealed):
         self.assertEqual(letter[letter.index("To check yours"):].splitlines(), [
             "To check yours:", "1. Open the page check.html that the office published.", "2. Choose your receipt there, the file that the office gave you, unchanged. The page shows your own name first.",
             "3. Compare the roots that the page shows with those above."])
-        self.assertIn(f"{lists}\n  {result}", (match / "letters.html").read_text(encoding="utf-8"))
+        # A page breaks lines by itself: of a blank before a root a telephone makes an empty line.
+        for name in ("letters.html", "rosters.html"):
+            page = (match / name).read_text(encoding="utf-8")
+            self.assertIn(f"members:\n\n{lists}\n{result}\n\nTo check yours:\n1.", page)
+            self.assertEqual(re.findall(r"(?m)^[ \t]+\S.*", page[page.index("<main>"):]), [])
         for language in ("de", "es", "fr", "pl"):
             letter = (self.matched(self.folder / "sealed", "--language", language, out=language) / "letters" / "kim-lee.txt").read_text(encoding="utf-8")
             below = letter[letter.index(f"  {result}\n"):].splitlines()
@@ -306,10 +318,19 @@ class Refused(Sealed):
             status, told = real(name, words, *more)
             return status, told.replace(b"member,R,kim-lee\n", b"") if words[0] == "receipts" else told
 
+        def other_count(name: str, words: List[str], *more: object) -> object:
+            status, told = real(name, words, *more)
+            return status, told.replace(b"lists,11", b"lists,12") if words[0] == "receipts" else told
+
+        def more_receipts(name: str, words: List[str], *more: object) -> object:
+            status, told = real(name, words, *more)
+            return status, told + b"member,R,kim\n" if words[0] == "receipts" else told
+
         def fails(*_: object) -> object:
             raise ProgramFailed(1, "out of memory")
 
-        for planted, wanted in ((other_roots, "differ"), (other_receipts, "differ"), (fails, "out of memory")):
+        for planted, wanted in ((other_roots, "differ"), (other_receipts, "differ"), (other_count, "differ"), (more_receipts, "differ"),
+                                (fails, "out of memory")):
             with mock.patch.object(sealing, "run_program", planted):
                 said = office("seal", *tables, "--out", self.folder / "sealed")
             self.assertEqual((said.status, said.out), (1, ""))
@@ -444,6 +465,22 @@ class Verified(Sealed):
         (match / "key.csv").unlink()
         self.assertIn("roots and receipts and 12 files made of them: not checked: needs the key and the secret", self.verify(match))
 
+    def test_a_folder_of_an_earlier_version(self) -> None:
+        """Its receipts were .csv files: one sentence says so, in place of a line for each file that this version makes otherwise."""
+        match = self.matched(self.sealed())
+        files = sorted((match / "receipts").iterdir())
+        for path in files:
+            path.rename(path.with_suffix(".csv"))
+        lines = self.verify(match)
+        self.assertEqual(lines[-2:], ["files: an earlier version of office made this folder, whose receipts are .csv files: verify it with that version",
+                                      f"this does not hold: files; {self.LEFT}"])
+        self.assertIn("result: Y,result", lines)
+        self.assertNotRegex("\n".join(lines), "differs|missing|more than")
+        # One such file beside those of this version is a file more.
+        for path in files[1:]:
+            path.with_suffix(".csv").rename(path)
+        self.assertLessEqual({f"receipts/{files[0].stem}.csv: more than the folder has", f"receipts/{files[0].name}: missing"}, set(self.verify(match)))
+
     def test_without_the_program(self) -> None:
         """Where the program isn't here, the office's own trees alone make the same, and verify says so."""
         with mock.patch.object(sealing, "is_built", lambda: False):
@@ -451,6 +488,16 @@ class Verified(Sealed):
             self.assertIn("by the office's own trees; the program seal isn't here", self.verify(match)[-3])
         self.assertEqual(self.receipts(match), derived(match, True).receipts())
         self.assertIn("files: 47 as made again", self.verify(match))
+
+    def test_whether_the_program_is_here(self) -> None:
+        """It is where the package finds it, and then it makes the roots, too."""
+        try:
+            find_program("seal")
+        except ProgramMissing:
+            self.skipTest("the program seal is missing here")
+        self.assertIn("by the program seal and by the office's own trees", self.verify(self.matched(self.sealed()))[-3])
+        with mock.patch.dict(os.environ, {"RESIDENCY_BIN": str(self.folder)}):
+            self.assertFalse(sealing.is_built())
 
     def test_in_a_process_of_its_own(self) -> None:
         match = self.matched(self.sealed())

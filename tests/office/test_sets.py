@@ -82,6 +82,8 @@ class Sets(OfficeTest):
         for word in ("Dvoøák", "Kuèera", "Zupanèiè", "Kovaèeviæ", "Vaòek", "Mãdãlina", "Erdõs", "Szûcs", "Wiœniewski", "JosŽ", "Ayþe",
                      "Yýlmaz", "Doðan", "Nu–ez", "Garc’a", "Maºa", "Íõ", "Rùžena", "Ïuriš", "Nikolìc", "Jos‚", "M¸ller", "Krejèí"):
             self.assertTrue(spelling.is_odd(word), word)
+        for word in ("É.", "Ø", "Å.", "Íñ.", "Zoë"):
+            self.assertEqual(spelling.is_odd(word), word == "Íñ.", word)
 
     def test_a_set_that_is_named_is_believed(self) -> None:
         said = office("check", *self.table(["Dvoøák"], "cp1252"), "--encoding", "windows-1252")

@@ -6,11 +6,12 @@ import random
 import shutil
 import subprocess
 import zipfile
+from pathlib import Path
 from typing import Callable, Dict, List, NamedTuple, Sequence, Tuple
 
 import planted
 import spoken
-from residency.office import sentences, steps
+from residency.office import sentences, sheets, steps
 from residency.office.settings import Settings
 from spoken import LANGUAGES, Spoken
 from support import PROGRAMMES, RESIDENTS, OfficeTest, office
@@ -363,6 +364,43 @@ class Languages(OfficeTest):
                         self.assertEqual(sentences.how(table), f"{owners}s: table, {SETS[form]}, {parts}, {named}a row for each "
                                          f"{'rank' if long else owners}")
 
+    def saved(self, kind: str, paths: Sequence[Path], form: str, *more: str) -> List[Path]:
+        """These files as LibreOffice saves them."""
+        out = self.folder / f"{paths[0].suffix[1:]}-{form}"
+        subprocess.run([shutil.which("soffice"), "--headless", f"-env:UserInstallation=file://{self.folder}/profile", *more, "--convert-to", kind, "--outdir",
+                        str(out), *map(str, paths)], check=True, capture_output=True, timeout=250)
+        return [out / f"{path.stem}.{kind.split(':')[0]}" for path in paths]
+
+    def test_what_libreoffice_saves(self) -> None:
+        """A table of each language that is made as CSV, as .xlsx or as .ods, and that it saves as .xlsx or as CSV in the sets that are found, passes
+        with no option at all; in another set the fault names this set."""
+        if shutil.which("soffice") is None:
+            self.skipTest("LibreOffice (soffice) is missing here")
+        whole = {words.language: self.rows(words, False) for words in LANGUAGES.values()}
+        wanted = steps.check(*map(given, whole["English"]), Settings()).market.docket()
+        named = [(f"{language}-{number}", rows) for language, tables in whole.items() for number, rows in enumerate(tables)]
+        made = {"csv": [Path(self.write(f"{name}.csv", given(rows).data)) for name, rows in named],
+                "xlsx": [Path(self.write(f"{name}.xlsx", sheets.book_of("Table", rows))) for name, rows in named]}
+        reads = {"csv": ["--infilter=CSV:44,34,76"]}
+        made["ods"] = self.saved("ods", made["csv"], "ods", *reads["csv"])
+        # By the sign between cells and LibreOffice's number of a set.
+        text = "csv:Text - txt - csv (StarCalc):{},34,{}"
+        forms = {"xlsx": "xlsx", "utf-8": text.format(44, 76), "cp1252": text.format(59, 1), "utf-16": text.format(9, 65535)}
+        for kind, form in [(kind, form) for kind in made for form in forms if kind == "ods" or form in ("xlsx", "utf-8")]:
+            files = {path.stem: path for path in self.saved(forms[form], made[kind], form, *reads.get(kind, []))}
+            for language, tables in whole.items():
+                read = steps.check(*(steps.Given("t", files[f"{language}-{number}"].read_bytes()) for number in (0, 1)), Settings())
+                self.assertEqual(sentences.report(read.faults), [], (language, kind, form))
+                self.assertEqual(read.market.docket(), wanted, (language, kind, form))
+        for language, number, title, *names in (("Polish", 33, "windows-1250", "Łukasz Wiśniewski", "Zofia Bąk", "Fatima Król"),
+                                                ("Turkish", 36, "windows-1254", "Işıl Şahingöz", "Zeynep Öztürk", "Fatma Doğan")):
+            known = dict(zip(("Jürgen Groß", "Zoë Brontë", "Fatima Kovács"), names))
+            rows = [[known.get(text, text) for text in row] for row in whole[language][1]]
+            self.write(f"{title}.csv", given(rows).data)
+            (path,) = self.saved(text.format(59, number), [self.folder / f"{title}.csv"], title, *reads["csv"])
+            self.assertIn(f"(--encoding residents=SET): {title} has ", " ".join(
+                sentences.report(steps.check(given(whole[language][0]), steps.Given("t", path.read_bytes()), Settings()).faults)))
+
     def test_names_in_two_columns(self) -> None:
         """Of each language, in either order; `Nom` beside `Prénom` and `Nombre` beside `Apellidos` are parts of a name."""
         for words in LANGUAGES.values():
@@ -594,6 +632,13 @@ class Classes(OfficeTest):
             "note: residents: 1 hidden row is read too: row 3, Bo", "note: residents: 2 hidden columns are read too: B, Rank 1, D, Rank 2",
             "note: residents: 1 column without a heading is empty: C"])
 
+    def test_a_column_without_a_heading_that_has_a_cell(self) -> None:
+        """It is a fault, and no column that is empty."""
+        read = steps.check(given([["Programme", "Places", "Rank 1"], ["North", "1", "Ana"]]),
+                           given([["Applicant", "", "Rank 1", "", "Rank 2"], ["Ana", "", "North", "", ""], ["Bo", "x", "North", "", ""]]), Settings())
+        self.assertEqual((list(map(sentences.line_of, read.faults.every())), list(map(sentences.note, read.notes()))), (
+            ["residents, row 3, cell 2 (B3): x stands in a column without a heading"], ["note: residents: 1 column without a heading is empty: D"]))
+
     def test_docket_names_that_tell_nobody_apart(self) -> None:
         """Such members are refused for sealing until there are IDs; a run without a seal takes them."""
         for first, second, one, other in (("Zoë Weiß", "Zoe Weiss", "zoe-weiss", "zoe-weiss-2"), ("???", "Kim", "r", "r")):
@@ -608,17 +653,3 @@ class Classes(OfficeTest):
             with_ids = self.write("r.csv", residents.replace(f"{first},,", f"{first},1,").replace(f"{second},,", f"{second},2,"))
             self.assertEqual(office("seal", tables[0], with_ids, "--out", self.folder / f"sealed-{one}", *options).status, 0)
         self.assertEqual(self.left(), ["p.csv", "r.csv", "sealed-r", "sealed-zoe-weiss"])
-
-    def test_what_libreoffice_saves(self) -> None:
-        """A table of each language that it saved as .xlsx and as CSV passes with no option at all."""
-        soffice = shutil.which("soffice")
-        if soffice is None:
-            self.skipTest("LibreOffice (soffice) is missing here")
-        for words in LANGUAGES.values():
-            for name, rows in zip(("programmes", "residents"), Languages.rows(self, words, False)):
-                self.write(f"{name}.csv", "".join(",".join(row) + "\n" for row in rows))
-            for form in ("xlsx", "csv"):
-                subprocess.run([soffice, "--headless", "--convert-to", form, "--outdir", str(self.folder / form), *(
-                    str(self.folder / f"{name}.csv") for name in ("programmes", "residents"))], check=True, capture_output=True)
-                said = office("check", *(self.folder / form / f"{name}.{form}" for name in ("programmes", "residents")))
-                self.assertEqual((said.status, said.err), (0, ""), said.out)

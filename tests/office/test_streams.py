@@ -188,10 +188,17 @@ class Words(OfficeTest):
             ["run", "a", "b", "--out", "c", "--timeout", "nan"],
             ["run", "a", "b", "--out", "c", "--order", "x"],
             ["check", "a", "b", "--nothing"],
+            ["check", "a", "b", "--no\x1b[2J"],
+            ["check", "a", "b", "--expect-residents", "9\x1b[2J"],
+            ["run", "a", "b", "--out", "c", "--date", "2026\x1b[2J"],
+            ["run", "a", "b", "--out", "c", "--timeout", "9\x1b[2J"],
+            ["run", "a", "b", "--out", "c", "--order", "x\x1b[2J"],
+            ["verify", "a", "--lists", "9\x1b[2J"],
         ):
             said = office(*words)
             self.assertEqual((said.status, said.out), (2, ""), words)
             self.assertRegex(said.err, r"\Aoffice: .* \(office.* --help says more\)\n\Z")
+            self.assertTrue(said.err[:-1].isprintable(), said.err)
 
     def test_a_title_that_is_no_text(self) -> None:
         said = office("run", *self.tables(), "--out", self.folder / "out", "--title", "T\x1b[2J")

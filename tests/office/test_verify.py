@@ -101,6 +101,14 @@ class Verify(unittest.TestCase):
             "reasons: the program says what the letters say", "files: 29 as made again",
             f"29 files made again, the result, the journal of {events} events; {NO_TABLES}"])
 
+    def test_many_files_more(self) -> None:
+        """The first twenty are told, and how many there are besides."""
+        for number in range(23):
+            (self.at / f"x{number:02}").touch()
+        said = self.fails("files").splitlines()
+        self.assertEqual(said[-23:-1], [*(f"x{number:02}: more than the folder has" for number in range(20)), "and 3 more files",
+                                        "files: 23 files of 29 differ, are missing or are more"])
+
     def test_what_is_told_is_a_value(self) -> None:
         """The step has each line with what it is about and whether it holds, gives each to the call, and prints nothing."""
         told = []
@@ -234,7 +242,7 @@ class Verify(unittest.TestCase):
         good = json.loads(self.text(MANIFEST))
         for text in ("", "[]", "{}", "[" * 9000, '"x"', *(json.dumps({**good, name: value}) for name, value in (
                 ("title", 1), ("date", 2), ("date", "2026-13-01"), ("withdrawn", {}), ("withdrawn", [["R"]]), ("details", "x"), ("details", [1]),
-                ("sealed", []), ("sealed", {}), ("from", 1), ("from", {}), ("template", 1), ("template", "$nobody"), ("order", []),
+                ("sealed", []), ("sealed", {}), ("from", 1), ("from", {}), ("template", 1), ("template", [1]), ("template", {"letter": 1}), ("template", "$nobody"), ("letter", {"sender": 1}), ("letter", {"x": "y"}), ("order", []),
                 ("cut_offs", "x"), ("tables", 1), ("sha256", 1), ("auditor", 1), ("auditor", {"key": 1})))):
             (self.at / MANIFEST).write_text(text, encoding="utf-8")
             said = office("verify", self.at)
@@ -255,7 +263,7 @@ class Verify(unittest.TestCase):
             with mock.patch.object(module, "second_opinion", return_value=script):
                 self.fails("second opinion")
         with mock.patch.object(module, "second_opinion", return_value=None):
-            self.fails("second opinion")
+            self.assertIn("second opinion: second-opinion.py isn't in this package; install it again\n", self.fails("second opinion"))
 
     def test_reasons_of_something_else(self) -> None:
         """What the program says of each choice has to be what the letters say."""

@@ -86,14 +86,14 @@ def break_off_after(seconds: float) -> None:
     faulthandler.dump_traceback_later(seconds, exit=True, file=sys.__stderr__)
 
 
-def run(tests: List[unittest.TestCase], seconds: float, kind: Type[Result] = Result) -> Result:
-    """Runs these tests, each for so many seconds at most, and tells each that isn't tried."""
+def run(tests: List[unittest.TestCase], seconds: float, kind: Type[Result] = Result, ends: bool = False) -> Result:
+    """Runs these tests, each for so many seconds at most, and tells each that isn't tried; with `ends` up to the first that fails."""
     # Under nohup, or in the background of a script, signals are ignored; what is started here heeds them all the same.
     for number in (signal.SIGINT, signal.SIGHUP):
         if signal.getsignal(number) == signal.SIG_IGN:
             signal.signal(number, lambda *_: None)
     kind.seconds = seconds
-    made = unittest.TextTestRunner(stream=sys.stderr, verbosity=0, resultclass=kind)
+    made = unittest.TextTestRunner(stream=sys.stderr, verbosity=0, resultclass=kind, failfast=ends)
     try:
         result = made.run(unittest.TestSuite(tests))
     finally:

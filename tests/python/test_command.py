@@ -18,7 +18,8 @@ from residency.__main__ import as_json
 TOP = Path(__file__).resolve().parent.parent.parent
 PACKAGE = Path(finding.__file__).resolve().parent
 EXAMPLES = TOP / "examples"
-KNOWN = {**os.environ, "PYTHONPATH": str(TOP / "python"), "RESIDENCY_BIN": str(find_program())}
+# Python keeps what it writes in a buffer, as it does where nobody asks otherwise.
+KNOWN = {**os.environ, "PYTHONPATH": str(TOP / "python"), "RESIDENCY_BIN": str(find_program()), "PYTHONUNBUFFERED": ""}
 
 
 def ask(words, data, **more):
@@ -102,11 +103,21 @@ class Json(unittest.TestCase):
                                   stderr=subprocess.PIPE, env=KNOWN, check=False)
         self.assertEqual((said.returncode, said.stderr), (1, b"residency: the output could not be written\n"))
 
+    def test_a_program_that_fails(self):
+        """Its own words and status stand; the signal that ended it is told."""
+        with tempfile.TemporaryDirectory() as folder:
+            program = Path(folder) / "residency"
+            for line, wanted in (("echo no >&2; exit 1", b"no\n"), ("kill -9 $$", b"residency: the program ended by signal 9\n")):
+                program.write_text(f"#!/bin/sh\n{line}\n")
+                program.chmod(0o755)
+                said = ask(["match", "--json"], b"", RESIDENCY_BIN=str(program))
+                self.assertEqual((said.returncode, said.stdout, said.stderr), (1, b"", wanted))
+
     def test_an_answer_that_is_none(self):
         for word, status, answer in (("match", 0, b"M,x\n"), ("match", 0, b"M,x,a\nU,x\nF,a,1,1\n"),
                                      ("match", 0, b"M,x,a\nF,a,0,1\n"),
                                      ("match", 0, b"M,x,b\nF,a,0,1\n"), ("match", 0, b"F,a,x,1\n"),
-                                     ("match", 0, b"F,a,0,1\nF,a,0,1\n"),
+                                     ("match", 0, b"F,a,0,1\nF,a,0,1\n"), ("match", 0, b"X,a,0,1\n"), ("match", 0, b"F,a,0,1,2\n"),
                                      ("match", 0, b"G,1\n"), ("audit", 0, b"S,unstable\n"), ("audit", 4, b"S,stable\n"),
                                      ("audit", 0, b""), ("replay", 4, b"G,1\n"), ("replay", 0, b"D,x\n")):
             with self.subTest(word=word, answer=answer), self.assertRaisesRegex(ValueError, f"isn't a {word}'s"):

@@ -2,11 +2,11 @@
 import random
 import subprocess
 import unittest
-from unittest import mock
 
 import made
 from residency import Docket, DocketFault, Journal, find_program, lint, read_docket, write_docket
-from residency.docket import MOST_RECORDS, first_fault, sheet_rows
+from residency.docket import first_fault, sheet_rows
+from residency.passes import NATIONAL, STANDARD, Passes
 from residency.records import records, shown
 
 SMALL = b"Q,a,1\nP,a,x\nR,x,a\n"
@@ -142,12 +142,11 @@ class Limits(unittest.TestCase):
 
     def test_records(self):
         # Two million records take the reader ten seconds, so the limit is a small one here.
-        self.assertEqual(MOST_RECORDS, 2_000_000)
-        with mock.patch("residency.passes.MOST_RECORDS", 3):
-            self.assertEqual([fault.line for fault in lint(SMALL + b"Z\nQ,b,x\n")], ["record 4: more than 2000000 records"])
-            self.assertEqual([fault.line for fault in lint(b"Z\n" + SMALL)][:2],
-                             ["record 1: unknown kind of row", "record 4: more than 2000000 records"])
-            self.assertIsNone(first_fault(SMALL))
+        self.assertEqual((STANDARD.records, NATIONAL.records), (2_000_000, 20_000_000))
+        for data, lines in ((SMALL, []), (SMALL + b"Z\nQ,b,x\n", ["record 4: more than 3 records"]),
+                            (b"Z\n" + SMALL, ["record 1: unknown kind of row", "record 4: more than 3 records"])):
+            found = Passes(STANDARD._replace(records=3)).faults(records(data))
+            self.assertEqual([fault.line for fault in found][:2], lines)
 
 
 class Lint(unittest.TestCase):

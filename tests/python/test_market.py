@@ -321,6 +321,16 @@ class Answers(unittest.TestCase):
             self.assertTrue(one.replay(match).good)
 
 
+class NoNames(unittest.TestCase):
+    def test_names_that_no_file_can_have(self):
+        """Half of a letter, and no text at all, of either side."""
+        for name, told in (("\ud800", r"\ud800"), ("", "''")):
+            for words, who in ((({name: 1}, {name: []}, {}), "programme"), (({"a": 1}, {"a": []}, {name: []}), "resident")):
+                with self.assertRaises(MarketFault) as caught:
+                    Market(*words)
+                self.assertIn(f"a {who} is called {told}, which is no name", str(caught.exception).splitlines())
+
+
 class WhyNot(unittest.TestCase):
     """The program's table of all answers, and a table by a program of the test."""
 
@@ -329,7 +339,7 @@ cat > /dev/null
 cat "$ROWS"
 """
 
-    def in_folder(self, last):
+    def in_folder(self, last, head="resident,programme,choice,answer,rank,last_rank,quota"):
         folder = tempfile.TemporaryDirectory()
         self.addCleanup(folder.cleanup)
         for name, path in (("residency", None), ("residency-why", self.TABLE)):
@@ -340,7 +350,7 @@ cat "$ROWS"
                 place.write_text(path)
                 place.chmod(0o755)
         rows = Path(folder.name) / "rows"
-        rows.write_text("resident,programme,choice,answer,rank,last_rank,quota\nzoe-weiss,lodz-east,1,matched,,,\n"
+        rows.write_text(f"{head}\nzoe-weiss,lodz-east,1,matched,,,\n"
                         f"zoe-weiss,koln,2,better,,,\nanna-1,koln,1,full,2,3,2\n{last}")
         return mock.patch.dict(os.environ, {"RESIDENCY_BIN": folder.name, "ROWS": str(rows)})
 
@@ -355,6 +365,11 @@ cat "$ROWS"
                              [("Zoë Weiß", "Łódź, East"), ("Zoë Weiß", "=Köln"), ("Anna (1)", "=Köln"), ("王芳", "=Köln")])
 
     def test_a_table_that_leaves_somebody_out(self):
+        with self.in_folder(""), self.assertRaises(UnknownStatus):
+            market().why(MATCHED, "王芳", "Łódź, East")
+        for head in ("programme,resident,choice,answer,rank,last_rank,quota", ""):
+            with self.in_folder("u738b82b3,koln,1,matched,,,\n", head), self.assertRaises(UnknownStatus):
+                market().why(MATCHED, "Zoë Weiß")
         for last in ("", "u738b82b3,koln,x,matched,,,\n", "u738b82b3,koln,1,matched\n",
                      "u738b82b3,koln,1,matched,,,\nu738b82b3,koln,1,matched,,,\nu738b82b3,lodz-east,2,matched,,,\n"):
             with self.in_folder(last), self.assertRaises(UnknownStatus):
@@ -374,6 +389,15 @@ cat "$ROWS"
                          (Why("王芳", "Łódź, East", "Łódź, East: it is not on your list."),))
         gone = one.withdraw(["=Köln"]).why({**MATCHED, "Anna (1)": None, "王芳": None}, "王芳")
         self.assertEqual([each.answer for each in gone], ["withdrawn"])
+
+    def test_answers_are_of_the_places_that_are_given(self):
+        """Of the residents' own stable match each answer is another than of the result."""
+        one = Market({"a": 1, "b": 1}, {"a": ["x", "y"], "b": ["y", "x"]}, {"x": ["b", "a"], "y": ["a", "b"]})
+        for places, first, second in (({"x": "b", "y": "a"}, "matched", "better"), ({"x": "a", "y": "b"}, "full", "matched")):
+            told = residency.why_all(one, places)
+            self.assertEqual([(each.resident, each.programme, each.answer) for each in told],
+                             [("x", "b", first), ("x", "a", second), ("y", "a", first), ("y", "b", second)])
+            self.assertEqual(told, one.why(places, "x") + one.why(places, "y"))
 
     def test_names_that_nobody_has(self):
         with self.assertRaisesRegex(MarketFault, "no resident is named Kim\nno programme is named East"):

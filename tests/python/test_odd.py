@@ -109,6 +109,7 @@ class Numbers(unittest.TestCase):
         self.assertTrue(one.audit({1: None, 2: "a"}).stable)
         self.assertEqual([why.answer for why in one.why(match, 1)], ["full"])
         self.assertEqual(one.withdraw(residents=[2]).match().places, {"1": "a", "2": None})
+        self.assertTrue(Market({7: 1}, {7: ["x"]}, {"x": [7]}).audit({"x": 7}).stable)
 
     def test_a_number_and_its_text(self):
         with self.assertRaisesRegex(MarketFault, "^the lists of residents: 1 comes twice$"):

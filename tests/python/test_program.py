@@ -1,6 +1,7 @@
 """Finding and running the programs: what is missing, too slow or odd is an exception of its own, never an empty result."""
 import os
 import pickle
+import re
 import shutil
 import subprocess
 import sys
@@ -81,8 +82,10 @@ class Finding(Folders):
             with self.named(self.folder / path), mock.patch.dict(os.environ,
                                                                  {"PATH": str(elsewhere.parent)}), self.assertRaisesRegex(ProgramMissing, "RESIDENCY_BIN names"):
                 find_program()
-        with self.named(self.put("readable", mode=0o644)), self.assertRaises(ProgramMissing):
-            find_program()
+        (self.folder / "folders" / "residency").mkdir(parents=True)
+        for path in (self.put("readable", mode=0o644), self.folder / "folders", self.folder / "folders" / "residency"):
+            with self.named(path), self.assertRaises(ProgramMissing):
+                find_program()
 
     def found_by(self, package):
         """What a copy of the package finds, with another PATH and without RESIDENCY_BIN."""
@@ -143,6 +146,10 @@ class Finding(Folders):
 
 
 class Exceptions(unittest.TestCase):
+    def test_where_a_key_is_at_fault(self):
+        for words, said in (((0, "a"), "a"), ((2, "a"), "row 2: a"), ((2, "a", 3), "row 2, cell 3: a")):
+            self.assertEqual(str(KeyFault(*words)), said)
+
     def test_they_can_be_sent_to_another_process(self):
         for one in (DocketFault(3, "unknown name", 4, "kim", "cell 4: kim"), MarketFault(["a", "b"]), KeyFault(1, "a", 2),
                     ProgramMissing("a"),
@@ -202,6 +209,8 @@ class Running(Folders):
                 self.run_script(text)
             self.assertEqual(caught.exception.status, status)
             self.assertIsInstance(caught.exception, ProgramError)
+            said = re.search("echo '?(?:residency: )?([a-z ]+)'? >&2", text)
+            self.assertEqual(caught.exception.text, said[1].strip() if said else "nothing was told")
 
     def test_answers_that_are_none(self):
         market = Market({"A": 1}, {"A": ["Kim"]}, {"Kim": ["A"]})

@@ -5,6 +5,7 @@ import io
 import os
 import random
 import subprocess
+import sys
 import tempfile
 import unittest
 from collections import Counter
@@ -31,6 +32,14 @@ def opinion(parts):
         with mock.patch("sys.argv", [str(SCRIPT), *paths]), contextlib.redirect_stdout(said):
             exec(CODE, {"__name__": "__main__", "__file__": str(SCRIPT)})
     return said.getvalue()
+
+
+class Words(unittest.TestCase):
+    def test_two_files_or_three(self):
+        """With fewer words, or more, it says which ones it takes, and no file is read."""
+        for count in (0, 1, 4):
+            done = subprocess.run([sys.executable, str(SCRIPT), *["/nowhere"] * count], capture_output=True, text=True, check=False)
+            self.assertEqual((done.returncode, done.stdout, done.stderr), (1, "", "second-opinion.py DOCKET SHEET [JOURNAL]\n"), count)
 
 
 def told(data):

@@ -38,7 +38,7 @@ def end_of(lines: List[str], head: int, indent: str) -> int:
     """The last line of the function whose head is there."""
     for at in range(head, len(lines)):
         line = lines[at]
-        if line == f"{indent}}}" or at == head and line.endswith("}") and line.startswith(f"{indent}") and "{" in line:
+        if line in (f"{indent}}}", f"{indent}{{}}") or at == head and line.endswith("}") and line.startswith(f"{indent}") and "{" in line:
             return at
         if line.endswith(";") and line[:len(indent) + 1].strip() and at == head:
             return at

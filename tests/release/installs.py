@@ -104,6 +104,17 @@ def beside_others(trial: Trial, root: Root, folder: str) -> None:
         trial.same(prefix.install("--uninstall")[0], 0, "install.sh --uninstall beside others' files")
         left = {os.path.relpath(f"{at}/{name}", prefix.path) for at, _, names in os.walk(prefix.path) for name in names}
         trial.same(left, {"bin/other", *of_others}, "the files that --uninstall leaves beside others'")
+    # Nor need the prefix be there: its folders are made, and go.
+    with Prefix(trial, root, folder, 'a "b'):
+        before = root.files()
+        line = "timeout 30 ./install.sh --prefix '../a \"b/c  d/e f'"
+        sheet = f"'{root.home}/a \"b/c  d/e f/bin/residency' match < examples/two-by-two.csv"
+        for words, wanted in ((line, b""), (line, b""), (sheet, SHEET), (f"{line} --uninstall", b"")):
+            status, out, err = root.run(words, folder)
+            trial.same((status, err, out if wanted else b""), (0, b"", wanted), f"of a prefix that isn't there: {words}")
+            if status:
+                break
+        trial.same(root.files(), before, "what --uninstall leaves of a prefix that wasn't there")
 
 
 def over_older(trial: Trial, root: Root, folder: str) -> None:

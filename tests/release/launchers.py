@@ -6,7 +6,7 @@ import os
 import shutil
 import subprocess
 import time
-from typing import TYPE_CHECKING, List, Optional
+from typing import TYPE_CHECKING, List, Optional, Tuple
 
 import checked
 import roots
@@ -162,7 +162,10 @@ END
 chmod +x "crates/$1/out/$1"
 """
 # What a start hands on as it is: blanks, signs of the shell, a word without a letter.
-WORDS = ["word", "Ana  Abel", "*", "", "$HOME", "-x", "a\nb"]
+WORDS = ["word", "Ana  Abel", "*", "", "$HOME", "-x", "a\nb", "it's", 'a "b']
+# Each launcher of a program with its crate; those of a match get tunables.
+LAUNCHERS = {"residency": "residency_cli", "residency-national": "residency_national", "why": "residency_why", "why-national": "residency_why_national",
+             "audit": "residency_audit", "seal": "residency_seal"}
 
 
 class Clone:
@@ -170,7 +173,7 @@ class Clone:
 
     def __init__(self, trial: Trial, folder: str) -> None:
         self.trial, self.folder = trial, folder
-        copy_of("residency", "why", "tools", "docs/help", "crates.txt", "crates", to=folder)
+        copy_of(*LAUNCHERS, "office", "tools", "docs/help", "crates.txt", "crates", to=folder)
         self.write("tools/build", STAND_IN)
         self.write("bin/rt", "#!/bin/sh\n")
         self.known = {**os.environ, "PATH": f"{folder}/bin:{os.environ['PATH']}"}
@@ -183,9 +186,10 @@ class Clone:
             file.write(text)
         os.chmod(f"{self.folder}/{path}", 0o755)
 
-    def start(self, launcher: str = "./residency", status: int = 0) -> None:
-        ran = subprocess.run([f"{self.folder}/{launcher}", *WORDS], cwd=self.folder, env=self.known, capture_output=True, text=True, check=False)
-        says = "" if status else "".join(f"<{word}>" for word in WORDS) + ("tuned\n" if launcher == "./residency" else "\n")
+    def start(self, launcher: str = "./residency", status: int = 0, folder: str = "", path: str = "") -> None:
+        ran = subprocess.run([path or f"{self.folder}/{launcher}", *WORDS], cwd=folder or self.folder, env=self.known, capture_output=True, text=True,
+                             check=False)
+        says = "" if status else "".join(f"<{word}>" for word in WORDS) + ("tuned\n" if launcher.startswith("./residency") else "\n")
         self.trial.same((ran.returncode, ran.stdout), (status, says), f"{launcher} of a counted clone ({ran.stderr})")
 
     def built(self) -> str:
@@ -242,6 +246,77 @@ def freshness(trial: Trial, folder: str) -> None:
     clone.start(status=1)
     trial.same(clone.builds() - before, 2, "builds that fail")
     trial.tell("tuned" not in clone.built(), "the tunables of a match reach a build")
+    elsewhere(trial, clone)
+    of_office(trial, clone)
+    helped(trial, clone)
+
+
+# By a launcher's words the kept help that it says before its program is built.
+HELPS = {"./residency --help": "help", "./residency match --help": "match-help", "./residency audit --help": "audit-help", "./residency-national --help": "help",
+         "./audit --help": "auditor-help", "./why --help": "why-help", "./why-national --help": "why-help", "./seal --help": "seal-help",
+         "./seal root --help": "seal-root-help"}
+
+
+def helped(trial: Trial, clone: Clone) -> None:
+    """What a program that isn't built says of itself is its kept help, and nothing is built for it."""
+    for crate in LAUNCHERS.values():
+        shutil.rmtree(f"{clone.folder}/crates/{crate}/out", ignore_errors=True)
+    before = clone.builds()
+    for line, name in HELPS.items():
+        ran = subprocess.run(line.split(), cwd=clone.folder, env=clone.known, capture_output=True, text=True, check=False)
+        with open(f"{clone.folder}/docs/help/{name}.txt") as file:
+            trial.same((ran.returncode, ran.stdout, ran.stderr), (0, file.read(), ""), f"{line} before the build")
+    trial.same(clone.builds(), before, "what helps build")
+
+
+# By the office's words what its launcher builds, before Python reads them. The last folder is there, and sealed.
+OF_OFFICE: List[Tuple[List[str], List[str]]] = [
+    ([], []), (["check", "p.csv", "r.csv"], []), (["letters", "run"], []), (["run", "--help"], []), (["verify", "new", "-h"], []), (["--help", "seal"], []),
+    (["run", "p.csv", "r.csv"], ["residency_cli"]), (["withdraw", "new", "Kim"], ["residency_cli"]),
+    (["run", "a --help b.csv", "it's -h \"so\".csv"], ["residency_cli"]), (["run", "a --seal b.csv", "c --lists d.csv", "a seal b"], ["residency_cli"]),
+    (["seal", "p.csv", "r.csv"], ["residency_seal", "residency_cli"]), (["run", "p.csv", "--seal"], ["residency_seal", "residency_cli"]),
+    (["run", "p.csv", "--lists=x y"], ["residency_seal", "residency_cli"]), (["verify", "new"], ["residency_why", "residency_cli"]),
+    (["verify", "it's \"a sealed\" one"], ["residency_why", "residency_seal", "residency_cli"]),
+    (["desk", "nowhere", "--no-browser"], ["residency_why", "residency_seal", "residency_cli"])]
+
+
+def of_office(trial: Trial, clone: Clone) -> None:
+    """The office's launcher builds what its words ask for; a name of a file that has such a word asks for nothing."""
+    clone.write("it's \"a sealed\" one/secret.txt", "")
+    for given, wanted in OF_OFFICE:
+        for crate in LAUNCHERS.values():
+            shutil.rmtree(f"{clone.folder}/crates/{crate}/out", ignore_errors=True)
+        before = clone.builds()
+        subprocess.run([f"{clone.folder}/office", *given], cwd=clone.folder, env=clone.known, capture_output=True, check=False)
+        trial.same([line.split()[0] for line in clone.built().splitlines()[before:]], wanted, f"what ./office {given} builds")
+
+
+def elsewhere(trial: Trial, clone: Clone) -> None:
+    """Each launcher from another folder, by its path and by a link, where the names of both have blanks and quotes: it builds its own
+    crate once, and lists the sources for the next start."""
+    clone.write("crates/docket/src/read.rt", "")
+    os.remove(f"{clone.folder}/fails")
+    other = f"{os.path.dirname(clone.folder)}/it's \"an other\" folder"
+    os.makedirs(other)
+    before = clone.builds()
+    for name, crate in LAUNCHERS.items():
+        os.symlink(f"../{os.path.basename(clone.folder)}/{name}", f"{other}/a link's {name}")
+        for path in (f"../{os.path.basename(clone.folder)}/{name}", f"./a link's {name}", f"{other}/a link's {name}"):
+            clone.start(f"./{name}", folder=other, path=path)
+        trial.tell(os.path.isfile(f"{clone.folder}/.build/{crate}.sources"), f"./{name} lists no sources for the next start")
+    trial.same(clone.built().splitlines()[before:], [*LAUNCHERS.values()], "what is built from another folder")
+    trial.same(sorted(os.listdir(f"{clone.folder}/.build") if os.path.isdir(f"{clone.folder}/.build") else []), sorted(f"{it}.sources" for it in LAUNCHERS.values()), "what starts leave beside the lists")
+    # The next start looks at the lists alone; but what RESIDENCY_BIN tells comes before what is built.
+    os.rename(f"{clone.folder}/tools/launch", f"{clone.folder}/tools/away")
+    for name in LAUNCHERS:
+        clone.start(f"./{name}", folder=other)
+    os.rename(f"{clone.folder}/tools/away", f"{clone.folder}/tools/launch")
+    for name in LAUNCHERS:
+        program = f"residency-{name}" if not name.startswith("residency") else name
+        roots.put_script(f"{other}/told/{program}", '#!/bin/sh\necho "told ${0##*/} $*"\n')
+        ran = subprocess.run([f"{clone.folder}/{name}", "a word"], cwd=other, env={**clone.known, "RESIDENCY_BIN": "told"}, capture_output=True, text=True,
+                             check=False)
+        trial.same((ran.returncode, ran.stdout, ran.stderr), (0, f"told {program} a word\n", ""), f"./{name} that RESIDENCY_BIN tells")
 
 
 def seconds_of(words: List[str]) -> float:

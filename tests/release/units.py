@@ -1,5 +1,6 @@
 """What the code of a release says of single values, without making one: the modes of an archive, two folders that differ, who
-answers for it, the version that a program says, the C library that it wants, and what goes before a package does."""
+answers for it, the version that a program says, the C library that it wants, what is missing and what VERDICT says, its pages, and what goes before
+a package does."""
 from __future__ import annotations
 
 import contextlib
@@ -15,6 +16,8 @@ from unittest import mock
 import archive
 import debian
 import launchers
+import pages
+import programs
 import refusals
 from roots import put_script
 
@@ -124,6 +127,144 @@ def c_library(trial: Trial, folder: str) -> None:
             trial.same(told, wanted, f"of a program for {version}")
 
 
+# What git and ./check say of a checkout that may be released, and what of it differs where it may not, with what is told.
+STATE = {"commit": "0123456789abcdef0123", "tree": "aa", "changed": ""}
+NOTE: Dict[str, Any] = {"commit": "fedcba9876543210fedc", "tree": "aa", "toolchain": "rt 1", "anew": True, "parts": ["gate: 5 passed, 0 failed"],
+                        "programs": {"residency": "11", "residency-why": "22"}}
+RUN_WHOLE = "./check has passed nothing here: run it whole, on a clean checkout"
+OF_CHECKS: List[Tuple[Dict[str, str], Any, List[str]]] = [
+    ({}, NOTE, []), ({"commit": ""}, NOTE, ["this is no git checkout"]), ({}, None, [RUN_WHOLE]),
+    ({"changed": " M a.py\n?? b.py\nR  c.py"}, None, ["the checkout has changes that aren't committed: a.py, b.py, c.py", RUN_WHOLE]),
+    ({"changed": "".join(f" M {it}\n" for it in "abcdefg")}, NOTE, ["the checkout has changes that aren't committed: a, b, c, d, e"]),
+    ({"tree": "bb"}, NOTE, ["./check passed commit fedcba987654, and 0123456789ab is checked out: run ./check"]),
+    ({}, {**NOTE, "anew": False}, ["./check counted what an earlier check kept: run ./check --anew"]),
+    ({}, {**NOTE, "parts": ["lint: 2 passed", "lint: not tried: mypy"]}, ["./check left something out: lint: not tried: mypy"]),
+    ({}, {**NOTE, "programs": {"residency": "12"}}, ["residency isn't the program that ./check built: run ./check",
+                                                    "residency-why isn't the program that ./check built: run ./check"])]
+VERDICT = """Residency 1.2.3, for Linux on x86-64 with the GNU C library 2.34 or later
+
+commit     fedcba9876543210fedc
+tree       aa
+toolchain  rt 1
+
+What ./check said at the end of each part:
+
+    gate: 5 passed, 0 failed
+
+The programs before they were stripped (SHA-256):
+
+    11  residency
+    22  residency-why
+
+What is trusted:
+
+"""
+TRIAL = """Residency 1.2.3, for Linux on x86-64 with the GNU C library 2.34 or later
+
+NO VERDICT. This archive is a trial: tools/release --trial made it for a test, and ./check hadn't passed.
+
+commit     0123456789abcdef0123, with or without changes
+
+The programs before they were stripped (SHA-256):
+
+    11  residency
+    22  residency-why
+
+What is trusted:
+
+"""
+
+
+def told(trial: Trial, folder: str) -> None:
+    """What is missing, what VERDICT says, and what was written, whole."""
+    tool = release_of(launchers.TOP)
+    for differs, note, wanted in OF_CHECKS:
+        with mock.patch.object(tool.tree, "state_of", lambda _, differs=differs: {**STATE, **differs}), \
+                mock.patch.object(tool.checked, "note_of", lambda _, note=note: note), \
+                mock.patch.object(tool.checked, "sums_of", lambda _: NOTE["programs"]):
+            trial.same(tool.missing_of_check(), wanted, f"what is missing where the checkout has {differs} and ./check noted {note}")
+    put_script(f"{folder}/built", "")
+    machines: List[Tuple[str, str, str, Dict[str, str], List[str]]] = [
+        ("x86_64", "Linux", "1.2.3", {"a": f"{folder}/built"}, []), ("x86_64", "Darwin", "1.2.3", {}, ["this machine isn't Linux on x86-64"]),
+        ("aarch64", "Linux", "1.2.3", {}, ["this machine isn't Linux on x86-64"]),
+        ("x86_64", "Linux", "1.2.4", {"a": "/no/a", "b": f"{folder}/built"},
+         ["strip is missing", "objdump is missing", "a isn't built: /no/a is missing", "CHANGELOG.md has no heading '## [1.2.4] - YYYY-MM-DD'"])]
+    for machine, system, version, paths, missing in machines:
+        there = "" if len(missing) > 1 else "/usr/bin/it"
+        with mock.patch.object(tool.platform, "machine", lambda machine=machine: machine), \
+                mock.patch.object(tool.platform, "system", lambda system=system: system), \
+                mock.patch.object(tool.shutil, "which", lambda _, there=there: there), \
+                mock.patch.object(tool, "read", lambda _: b"# Log\n\n## [1.2.3] - 2026-11-29\n\n## [1.2.40] - 2026-11-29\n"):
+            trial.same(tool.missing_always(version, paths), missing, f"what a {machine} with {system} lacks for {version}")
+    with open(f"{launchers.TOP}/packaging/trusted.txt") as file:
+        trusted = "".join(f"    {line}" for line in file)
+    with mock.patch.object(tool.tree, "state_of", lambda _: STATE), mock.patch.object(tool.checked, "sum_of", lambda path: path[-2:]):
+        for note, text in ((NOTE, VERDICT), (None, TRIAL)):
+            trial.same(tool.verdict("1.2.3", note, {"residency": "of 11", "residency-why": "of 22"}), text + trusted, "what VERDICT says")
+    out = io.StringIO()
+    with contextlib.redirect_stdout(out):
+        tool.write(f"{folder}/new/dist", {"a.whl": b"abc", "b.deb": b""})
+    # The sums of `abc` and of nothing that FIPS 180-2 gives.
+    sums = ("ba7816bf8f01cfea414140de5dae2223b00361a396177a9cb410ff61f20015ad", "e3b0c44298fc1c149afbf4c8996fb92427ae41e4649b934ca495991b7852b855")
+    trial.same(out.getvalue(), f"{folder}/new/dist/a.whl: 3 bytes, {sums[0]}\n{folder}/new/dist/b.deb: 0 bytes, {sums[1]}\n", "what is told of what is written")
+    found = {}
+    for name in os.listdir(f"{folder}/new/dist"):
+        with open(f"{folder}/new/dist/{name}") as file:
+            found[name] = file.read()
+    trial.same(found, {"a.whl": "abc", "b.deb": "", "a.whl.sha256": f"{sums[0]}  a.whl\n", "b.deb.sha256": f"{sums[1]}  b.deb\n"}, "what is written")
+
+
+# The pages of a small tree, and as a release has them.
+PAGES: Dict[str, bytes] = {
+    "README.md": b"""# Title
+
+Before.
+
+<!-- for users -->
+See [the pages](docs/a.md#part), ![shown](docs/p.png), [others](docs/decisions/x.md), [the code](crates/a.rt), [the web](https://example.org/docs/b.md),
+[itself](#top), [changes](CHANGELOG.md) and [the verdict](VERDICT). Run `./residency match`, `./why-national`, `./seal/x`, `./office` or `./python`.
+<!-- for all others -->
+Left out: [b](docs/b.md).
+<!-- for users -->
+More.
+<!-- for all others -->
+""",
+    "docs/a.md": b"To [c](c.md#c), [back](../README.md), [help](help/x.txt) and [code](../crates/a.rt).\n",
+    "docs/c.md": b"# C\n<!-- for users -->\nFor users, `./why`.\n<!-- for all others -->\nNot.\n",
+    "docs/help/x.txt": b"./residency\n", "docs/p.png": b"\x89P", "docs/b.md": b"b\n", "docs/decisions/x.md": b"x\n", "crates/a.rt": b"a\n"}
+RELEASED: Dict[str, bytes] = {
+    "README.md": b"""# Title
+
+Before.
+
+See [the pages](docs/a.md#part), ![shown](docs/p.png), others, the code, [the web](https://example.org/docs/b.md),
+[itself](#top), [changes](CHANGELOG.md) and [the verdict](VERDICT). Run `residency match`, `residency-why-national`, `./seal/x`, `residency-office` or `~/.local/lib/residency/python`.
+
+More.
+""",
+    "docs/a.md": b"To [c](c.md#c), [back](../README.md), [help](help/x.txt) and code.\n", "docs/c.md": b"# C\n\nFor users, `residency-why`.\n",
+    "docs/help/x.txt": b"./residency\n", "docs/p.png": b"\x89P"}
+
+
+def paged(trial: Trial, folder: str) -> None:
+    """README's parts for users, and all pages and pictures that they lead to, in which no link leads to what isn't there."""
+    for path, data in PAGES.items():
+        os.makedirs(os.path.dirname(f"{folder}/{path}"), exist_ok=True)
+        with open(f"{folder}/{path}", "wb") as file:
+            file.write(data)
+    trial.same(pages.release_pages(folder), RELEASED, "the pages of a small release")
+    trial.same(pages.adapted("examples/README.md", b"[a](a.csv), [b](b.csv): `./audit`\n", {"examples/a.csv"}), b"[a](a.csv), b: `residency-audit`\n", "a page beside")
+    trial.same(pages.adapted("examples/a.csv", b"./audit\n", set()), b"./audit\n", "a file that is no page")
+
+
+def listed(trial: Trial, folder: str) -> None:
+    """The programs whose crates are listed, and the names that two of them share."""
+    put_script(f"{folder}/crates.txt", "# residency_why: none\nresidency_cli: one\nother: residency_audit\nresidency_seal:\n")
+    trial.same(programs.listed(folder), {"residency": "residency_cli", "residency-seal": "residency_seal"}, "the programs of a list")
+    trial.same([programs.called(it) for it in ("residency", "residency-national", "residency-why-national", "residency-seal")],
+               ["residency", "residency", "residency-why", "residency-seal"], "how programs are called")
+
+
 def prerm(trial: Trial, folder: str) -> None:
     """What Python kept beside the package goes before the package's files do, and of other packages nothing."""
     own, others = "usr/lib/residency/python/residency", "usr/lib/python3/dist-packages/other"
@@ -145,4 +286,7 @@ def try_all(trial: Trial, folder: str) -> None:
     maintainers(trial)
     versions(trial, f"{folder}/versions")
     c_library(trial, f"{folder}/c-library")
+    told(trial, f"{folder}/told")
+    paged(trial, f"{folder}/pages")
+    listed(trial, f"{folder}/programs")
     prerm(trial, f"{folder}/prerm")

@@ -20,7 +20,7 @@ SECONDS = 60.0
 class Chromium:
     """A browser with one page, which knows no network."""
 
-    def __init__(self, program: str) -> None:
+    def __init__(self, program: str, *more: str) -> None:
         commands, ours = os.pipe()
         theirs, answers = os.pipe()
         self.numbers, self.left = itertools.count(1), b""
@@ -28,7 +28,7 @@ class Chromium:
         self.events: List[Dict[str, Any]] = []
         self.room = tempfile.mkdtemp()
         words = [program, "--headless", "--no-sandbox", "--disable-gpu", "--hide-scrollbars", "--remote-debugging-pipe",
-                 f"--user-data-dir={self.room}", "about:blank"]
+                 f"--user-data-dir={self.room}", *more, "about:blank"]
         # The browser takes commands at the descriptor 3 and answers at 4.
         line = f'exec "$@" 3<&{commands} 4>&{answers}'
         self.process = subprocess.Popen(["bash", "-c", line, "bash", *words], pass_fds=(commands, answers), stderr=subprocess.DEVNULL,
@@ -90,9 +90,16 @@ class Chromium:
 
     def open(self, path: str, width: int = 1280, height: int = 900) -> None:
         """Opens a file at a screen of this size; under 600 pixels it is a telephone's."""
+        self.visit(f"file://{path}", width, height)
+
+    def screen(self, width: int, height: int = 900) -> None:
         self.ask("Emulation.setDeviceMetricsOverride", width=width, height=height, deviceScaleFactor=1, mobile=width < 600)
+
+    def visit(self, address: str, width: int = 1280, height: int = 900) -> None:
+        """Opens a page by its address."""
+        self.screen(width, height)
         self.events.clear()
-        self.ask("Page.navigate", url=f"file://{path}")
+        self.ask("Page.navigate", url=address)
         end = time.monotonic() + SECONDS
         while not any(one.get("method") == "Page.loadEventFired" for one in self.events):
             self.read(end)
@@ -100,6 +107,14 @@ class Chromium:
     def value(self, text: str) -> Any:
         """The value of an expression in the page."""
         return self.ask("Runtime.evaluate", expression=text, returnByValue=True, awaitPromise=True)["result"].get("value")
+
+    def wait(self, text: str, seconds: float = SECONDS) -> None:
+        """Waits until an expression in the page is true."""
+        end = time.monotonic() + seconds
+        while not self.value(f"Boolean({text})"):
+            if time.monotonic() > end:
+                raise TimeoutError(f"the page doesn't come to this: {text}")
+            time.sleep(0.02)
 
     def press(self, key: str, code: int, text: str = "") -> None:
         for kind in ("keyDown", "keyUp"):

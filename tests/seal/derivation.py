@@ -3,6 +3,7 @@ from __future__ import annotations
 
 import csv
 import hashlib
+import os
 import re
 import unicodedata
 from typing import Callable, Dict, List, Mapping, NamedTuple, Optional, Sequence, Tuple
@@ -328,7 +329,10 @@ TELLS = {"header": "not the first row of a receipt" + AGAIN, "root row": "not th
          "opening": "what follows doesn't open the published root", "list": "not a row of this member's list", "result": "not a row of this member's result",
          "unasked": "a result, and no root of a result was given", "name": "not a name of a docket", "real name": "not a real name that can be shown", "twice": "a name that stands twice",
          "not listed": "a name that isn't on the list", "numbers": "the numbers don't fit the rows", "gone": "a result of a member who is withdrawn",
-         "reason": "a reason that can't stand here", "full": "full, but not of residents who are ranked before"}
+         "reason": "a reason that can't stand here", "full": "full, but not of residents who are ranked before",
+         # What is asked where receipts are compared.
+         "members": "another number of members than the published one", "resident": "not a resident's receipt", "programme": "not a programme's receipt",
+         "again": "a member whose receipt is in a file before this one"}
 # How the page tells it.
 SAYS = {"header": "this is not the first row of a receipt.", "root row": "this is not the row of a root.", "opening row": "this is not the row of an opening.",
         "age": "this is a receipt of an earlier form, whose root has no number of members.",
@@ -340,7 +344,8 @@ SAYS = {"header": "this is not the first row of a receipt.", "root row": "this i
         "unasked": "here is a result, and this page is from before the match. Take the page of after the match.",
         "name": "here is a name that no docket has.", "real name": "here is a real name that cannot be shown as it is.", "twice": "here is a name that stands twice.", "not listed": "here is a name that is not on the list.",
         "numbers": "the numbers do not fit the rows.", "gone": "here is a result of a member who is withdrawn.",
-        "reason": "here is a reason that cannot stand here.", "full": "a programme is called full, and not of residents whom it ranked higher."}
+        "reason": "here is a reason that cannot stand here.", "full": "a programme is called full, and not of residents whom it ranked higher.",
+        "members": "it has another number of members than the office published."}
 # With one of these the file is not as it was given; with another the receipt is wrong.
 CHANGED = ("header", "root row", "opening row", "age", "cut", "long")
 
@@ -529,6 +534,148 @@ def want_result(told: Content, first: int) -> None:
         want(told.own is None or told.own in told.listed, first, "not listed")
         for choice in range(len(told.listed)):
             want_answer(told, choice, first + 1 + choice)
+
+
+# What is said of two receipts together, by its name.
+SENTENCES = {
+    "agree.unlisted": "{resident} does not list {programme}", "agree.gone": "{name} is withdrawn", "agree.unranked": "{programme} does not list {resident}",
+    "agree.matched": "{resident} is matched with {programme}", "agree.better": "{resident} is matched with a programme that it lists before {programme}",
+    "agree.no-places": "{programme} lists {resident} {rank}, and it has no places",
+    "agree.one-place": "{programme} lists {resident} {rank}, and its place went to the resident whom it lists {last}",
+    "agree.places": "{programme} lists {resident} {rank}, and all its {quota} places went to residents whom it lists before, the last of them {last}",
+    "differ.unlisted": "{programme} has {resident}, and {resident} does not list {programme}",
+    "differ.gone": "{resident}'s receipt says {answer}, and {name} is withdrawn", "differ.not-gone": "{resident}'s receipt says {answer}, and neither is withdrawn",
+    "differ.listed": "{resident}'s receipt says {answer}, and {programme} lists {resident} {rank}",
+    "differ.unranked": "{resident}'s receipt says {answer}, and {programme} does not list {resident}",
+    "differ.there": "{resident}'s receipt says {answer}, and {programme} has {resident}",
+    "differ.not-there": "{resident}'s receipt says {answer}, and {programme} does not have {resident}",
+    "differ.rank": "{resident}'s receipt says that {programme} lists it {rank}, and {programme} lists it {here}",
+    "differ.quota": "{resident}'s receipt says that {programme} has {quota} places, and {programme} has {places}",
+    "differ.filled": "{resident}'s receipt says that all places of {programme} went to others, and {filled} of {places} are filled",
+    "differ.last": "{resident}'s receipt says that the last of them is {last} with {programme}, and it is {here}"}
+# The values of a sentence that are ranks.
+RANKS = ("rank", "last", "here")
+
+
+class Pair(NamedTuple):
+    """What the receipts of a resident and a programme say together: a sentence by its name, with its values."""
+
+    what: str
+    values: Dict[str, object]
+
+    @property
+    def agree(self) -> bool:
+        return self.what.startswith("agree")
+
+    def sentence(self) -> str:
+        values = {key: ordinal(one) if key in RANKS else one for key, one in self.values.items()}
+        return "{resident} and {programme} {0}: {1}.".format(self.what.partition(".")[0], SENTENCES[self.what].format(**values), **values)
+
+
+# A thing that is asked of a pair: its name, what the resident's receipt says, and what is so by both.
+Asked = Tuple[str, object, object]
+
+
+def asked_of(resident: Shown, programme: Shown) -> Tuple[List[Asked], Dict[str, object]]:
+    """What is asked of a pair, in order, where the programme is on the resident's list; and the values of what is said."""
+    place = {one: rank for rank, one in enumerate(programme.listed, 1)}
+    gone, rank = [one.name for one in (resident, programme) if one.is_gone], place.get(resident.name)
+    answer, said_rank, said_last, said_quota = next(reason[3:] for reason in resident.reasons if reason[1] == programme.name)
+    asked: List[Asked] = [("withdrawn", answer == "withdrawn", bool(gone)), ("unranked", answer == "unranked", rank is None and not gone),
+                          ("matched", answer == "matched", resident.name in programme.filled)]
+    last, filled = max((place[one] for one in programme.filled if one in place), default=""), len(programme.filled)
+    if answer == "full":
+        asked += [("rank", said_rank, rank), ("quota", said_quota, programme.quota), ("filled", programme.quota, filled), ("last", said_last, last)]
+    return asked, {"name": "".join(gone[:1]), "answer": answer, "rank": said_rank, "last": said_last, "quota": said_quota, "places": programme.quota, "filled": filled}
+
+
+# By what is asked, and where it is of yes and no, by what is so: the name of what is said where the two differ.
+DIFFERENT: Dict[Tuple[str, object], str] = {
+    ("withdrawn", True): "gone", ("withdrawn", False): "not-gone", ("unranked", True): "unranked", ("unranked", False): "listed",
+    ("matched", True): "there", ("matched", False): "not-there"}
+
+
+def pair_of(resident: Shown, programme: Shown) -> Pair:
+    """What the receipts of a resident and a programme say together, both of which hold."""
+    names: Dict[str, object] = {"resident": resident.name, "programme": programme.name}
+    if programme.name not in resident.listed:
+        return Pair("differ.unlisted" if resident.name in programme.filled else "agree.unlisted", names)
+    asked, values = asked_of(resident, programme)
+    names.update(values)
+    for what, said, so in asked:
+        if said != so:
+            name = DIFFERENT.get((what, so), what)
+            here = list(programme.listed).index(resident.name) + 1 if name == "listed" else so
+            return Pair(f"differ.{name}", {**names, "here": here, **({"rank": here} if name == "listed" else {})})
+    answer = str(values["answer"])
+    if answer == "full":
+        answer = {0: "no-places", 1: "one-place"}.get(programme.quota, "places")
+    return Pair(f"agree.{'gone' if answer == 'withdrawn' else answer}", names)
+
+
+Roots = Dict[str, Tuple[int, str]]
+
+
+def compared_fault(receipt: bytes, roots: Roots, side: str = "") -> Optional[Wrong]:
+    """Why a receipt can't be compared: it isn't good, or has another number of members than was published, or is of the other side."""
+    wrong = fault_of(receipt, roots)
+    if wrong:
+        return wrong
+    told = Content(plain(receipt), roots)
+    rows = [row for row, word in ((2, "lists"), (told.end + 1, "result")) if int(told.count) != roots[word][0]]
+    return Wrong(rows[0], "members") if rows else Wrong(1, {"R": "resident", "P": "programme"}[side]) if side not in ("", told.side) else None
+
+
+def pair_said(files: Sequence[Tuple[str, bytes]], roots: Roots) -> Tuple[int, str]:
+    """The status and what is told of two files with their names, of which the first should be a resident's receipt, and the second a programme's."""
+    for (path, receipt), side in zip(files, "RP"):
+        wrong = compared_fault(receipt, roots, side)
+        if wrong:
+            return 3, f"{path}: {by_words(wrong)[1]}"
+    pair = pair_of(*(shown_by(receipt, roots) for _, receipt in files))
+    return (0 if pair.agree else 4), f"{pair.sentence()}\n"
+
+
+def pair_by_page(given: Sequence[bytes], roots: Roots) -> List[object]:
+    """Each part of the page's answer to two receipts."""
+    faults = [compared_fault(receipt, roots) for receipt in given]
+    parts = [by_page(wrong) if wrong else shown_by(receipt, roots).by_page() for wrong, receipt in zip(faults, given)]
+    return [together_by_page(given, faults, roots), "H3 The first receipt", parts[0], "H3 The second receipt", parts[1]]
+
+
+def together_by_page(given: Sequence[bytes], faults: Sequence[Optional[Wrong]], roots: Roots) -> List[str]:
+    none = "H3 The two receipts cannot be compared"
+    for wrong in filter(None, faults):
+        return [by_page(wrong)[0], none, "P Only receipts that hold can be compared. One that does not is shown below."]
+    told = {shown.side: shown for shown in (shown_by(receipt, roots) for receipt in given)}
+    if len(told) < 2:
+        return ["bad", none, f"P Both are receipts of {'residents' if 'R' in told else 'programmes'}. Choose one of a resident and one of a programme."]
+    pair = pair_of(told["R"], told["P"])
+    if pair.agree:
+        return ["good", "H3 The two receipts agree", f"P {pair.sentence()}", "P This shows that these two fit together, and nothing of other members."]
+    return ["bad", "H3 The two receipts differ", f"P {pair.sentence()}",
+            "P The office sealed both, and they cannot both be right. Keep both files, and tell whoever audits the match."]
+
+
+def folder_said(files: Mapping[str, bytes], folder: str, roots: Roots) -> Tuple[int, str, str]:
+    """The status, and what is written and told of a folder with these files: all receipts are compared with each other. A file whose name
+    begins with a dot is passed over."""
+    told: Dict[Tuple[str, str], Shown] = {}
+    for name in sorted((one for one in files if not one.startswith(".")), key=os.fsencode):
+        wrong = compared_fault(files[name], roots)
+        if wrong is None:
+            shown = shown_by(files[name], roots)
+            wrong = Wrong(3, "again") if (shown.side, shown.name) in told else None
+            told[shown.side, shown.name] = shown
+        if wrong:
+            return 3, "", f"residency: {folder}/{name}: {by_words(wrong)[1]}"
+    pairs = [pair_of(resident, told["P", one]) for (side, _), resident in told.items() if side == "R" for one in resident.listed if ("P", one) in told]
+    pairs += [pair_of(told["R", one], programme) for (side, name), programme in told.items() if side == "P"
+              for one in programme.filled if ("R", one) in told and name not in told["R", one].listed]
+    lines, count = [pair.sentence() for pair in pairs if not pair.agree], roots["lists"][0]
+    is_stable = len(told) == count and not lines
+    lines = [*lines, f"{len(told)} of {count} members are there, and {len(pairs)} pairs were compared: {len(lines)} differ.", *["The placement is stable."] * is_stable]
+    return (0 if is_stable else 4), "".join(f"{line}\n" for line in lines), ""
 
 
 def read(docket: bytes) -> Market:

@@ -5,7 +5,7 @@ import re
 from html.parser import HTMLParser
 from typing import Any, Callable, List, Sequence
 
-from derivation import CHANGED, Shown, Wrong
+from derivation import CHANGED, RANKS, Pair, Roots as Published, Shown, Wrong, compared_fault, pair_of, shown_by
 from residency.office.phrases import VALUE, Phrases
 from residency.office.tree import Roots
 
@@ -20,7 +20,7 @@ def opened(said: Phrases, title: str, day: str, roots: Roots) -> List[str]:
     say = {key[6:]: text for key, text in said.texts.items() if key.startswith("check.")}
     digits = [text for word, root in there for text in (said.say(f"check.root-of-{word}", count=roots.count), root)]
     told = f"{say['given']} {say['tells-result' if roots.result else 'tells-lists']} {say['private']}"
-    rest = [say[key] for key in ("compare", "receipt", "file", "text", "button", "shows", "nothing-yet", "no-script")]
+    rest = [say[key] for key in ("compare", "receipt", "file", "text", "other", "both", "button", "shows", "nothing-yet", "no-script")]
     return [said.language, said.say("check.title", title=title), say["heading"], f"{title}. {day}.", told, say["published"], *digits, *rest]
 
 
@@ -101,3 +101,45 @@ def fault(wrong: Wrong, said: Phrases) -> List[str]:
 def nothing(said: Phrases, key: str) -> List[str]:
     """What is shown where there is no receipt."""
     return ["bad", f"H3 {said.say(f'checked.{key}')}", f"P {said.say(f'checked.{key}-next')}"]
+
+
+def sentence(pair: Pair, said: Phrases) -> str:
+    """What a resident's and a programme's receipts say together."""
+    say, kind = sayer(said), pair.what.partition(".")[0]
+    values = {key: said.ordinal(one) if key in RANKS and isinstance(one, int) else one for key, one in pair.values.items()}
+    values["answer"] = say(f"word.{pair.values['answer']}") if "answer" in values else ""
+    return say(kind, resident=values["resident"], programme=values["programme"], said=say(pair.what, **values))
+
+
+def together(given: Sequence[bytes], roots: Published, said: Phrases) -> List[object]:
+    """As `pair_by_page` of two receipts, in this language."""
+    say, faults = sayer(said), [compared_fault(receipt, roots) for receipt in given]
+    shown = [None if wrong else shown_by(receipt, roots) for wrong, receipt in zip(faults, given)]
+    parts: List[List[Any]] = [list(fault(wrong, said)) if wrong else good(one, said) if one else [] for wrong, one in zip(faults, shown)]
+    there = {one.side: one for one in shown if one}
+    if any(faults):
+        first: List[object] = [next(part[0] for part, wrong in zip(parts, faults) if wrong), f"H3 {say('pair.none')}", f"P {say('pair.fault')}"]
+    elif len(there) < 2:
+        first = ["bad", f"H3 {say('pair.none')}", f"P {say('pair.residents' if 'R' in there else 'pair.programmes')}"]
+    else:
+        pair = pair_of(there["R"], there["P"])
+        kind = "agree" if pair.agree else "differ"
+        first = ["good" if pair.agree else "bad", f"H3 {say(f'pair.{kind}')}", f"P {sentence(pair, said)}", f"P {say(f'pair.{kind}-next')}"]
+    return [first, f"H3 {say('pair.first')}", parts[0], f"H3 {say('pair.second')}", parts[1]]
+
+
+# Of each language words that the others don't have, by which a sentence is known to be in it.
+KNOWN = {
+    "de": "und die der das nicht ein eine einen einer einem hat ist sind bei auf laut dort sie ihre ihr wer beide beiden zu den dem steht keine aber oder hier noch warum für diese quittung platz besetzt",
+    "en": "the and of is it its that whom has have one both receipt receipts file list your you does not neither here with there yet why by had",
+    "es": "el los las y que su sus tiene según pero por con ninguno dos lo se al para no del recibo archivo una persona usted aquí plazas está vacía",
+    "fr": "le les et du au une est sur dans chez selon mais pas qui celui deux des ce ne vous votre reçu fichier n’a n’est il ici liste d’un ou pourquoi s’est contredisent",
+    "pl": "nie na jest są ma oba obie według pokwitowanie pokwitowania osoba osoby tego się i w z to albo lub tu do proszę pokwitowań listy liczba miejsca korzeń dlaczego po co biuro brak miejsc",
+}
+
+
+def in_another(said: Phrases) -> List[str]:
+    """The names of the page's phrases of several words that don't have more words of their language than of another one."""
+    counts = {key: {language: sum(word in known.split() for word in re.findall(r"[\w’]+", VALUE.sub(" ", text).lower())) for language, known in KNOWN.items()}
+              for key, text in said.texts.items() if key.startswith(("check.", "checked.")) and len(re.findall(r"\w+", VALUE.sub(" ", text))) > 1}
+    return [key for key, count in counts.items() if max(count, key=lambda one: (count[one], one != said.language)) != said.language]

@@ -3,21 +3,26 @@
 It takes the sources word by word and knows nothing of how the page is made. A type has all of its fields or variants, a record
 all of its lines, a call its whole contract, and each bracket is closed."""
 import glob
+import itertools
 import re
 from typing import Dict, Iterable, Iterator, List, NamedTuple, Optional, Set, Tuple
 
 CLOSING = {"(": ")", "[": "]", "{": "}"}
 HEAD = re.compile(r"^(?:pub(?:\(\w+\))? )?(struct|enum|trait|const|type|fn) (\w+)", re.M)
 MEMBER = re.compile(r"\s*(?:ghost|fn|const|type) ")
-RECORD = re.compile(r"^(?:\w+ )*record (\w+)")
+RECORD = re.compile(r"^(?:\w+ )*(?:record|data) (\w+)")
 # What the theorem's premise names: the page says that serve_match ensures it, and prints it there.
 PREMISE = {"AreDocket", "WritesMatch"}
 # How a definition begins that stands at the margin.
-STARTS = re.compile(r"(?:abbrev|unfoldable|pub)\b")
+STARTS = re.compile(r"(?:record|data|pub(?:\(crate\))?|struct|module) |impl(?!\w| \w+ for )|[\w:']+ : ")
+# Words of the sources that the page leaves out.
+PROVERS = re.compile(r"(?<![\w`])(?:abbrev |unfoldable )*pub (?=[\w◌])")
+# What is between equations that stand side by side.
+BESIDE = re.compile(r"(?<=\S) {3,}(?=\S)")  # (of two a comment stands behind)
 
 
 # What the language has of its own, and the page explains; and Rust's own words.
-WORDS = set("abbrev unfoldable pub record data where module let in if then else λ Type Unit tt result requires ensures fn struct enum const "
+WORDS = set("pub record data where module let in if then else λ Type Unit tt result requires ensures fn struct enum const "
             "trait impl for type mut ghost crate self Self dyn bool char str u8 u16 u32 u64 usize i32 i64 clauses of which always holds _ "
             "io::Result clap::Error".split())
 
@@ -31,25 +36,22 @@ class Block(NamedTuple):
 
 
 def blocks(page: str) -> "List[Block]":
-    found = re.findall(r"^`(crates/\S+)`:\n```(rust)?\n(.*?)^```$", page, re.M | re.S)
-    dense = [it for text in re.findall(r"^```\n(-- crates/.*?)^```$", page, re.M | re.S) for it in dense_blocks(text)]
-    return [*dense, *(Block(path, bool(rust), text) for path, rust, text in found)]
+    return [it for text in re.findall(r"^```\n(-- crates/.*?)^```$", page, re.M | re.S) for it in dense_blocks(text)]
 
 
 def theorem(page: str) -> str:
     """The part of the page that stands alone."""
-    return page[:page.index("\n## The other calls\n") + 1]
+    return page[:page.index("\n## How the definitions differ\n") + 1]
 
 
 def theorem_blocks(page: str) -> "List[Block]":
     """The definitions of the theorem."""
-    block = re.search(r"^```\n(-- crates/.*?)^```$", theorem(page), re.M | re.S)
-    return dense_blocks(block[1]) if block else []
+    return [it for it in blocks(theorem(page)) if not re.search(r"^pub fn ", it.text, re.M)]
 
 
 def dense_blocks(text_of: str) -> "List[Block]":
     """Definitions, file by file, laid out as in the sources: a sentence that stands behind a line comes above it, and an empty
-    line between two definitions."""
+    line between two definitions. What a type has of calls stands alone."""
     found: "List[Block]" = []
     for line in text_of.rstrip("\n").split("\n"):
         file = re.fullmatch(r"-- (crates/\S+)", line)
@@ -59,18 +61,21 @@ def dense_blocks(text_of: str) -> "List[Block]":
         path, is_rust, text = found[-1]
         mark = "///" if is_rust else "--"
         behind = re.fullmatch(r"(\S.*?)  (?://|--) (?!in clauses: )(.*)", line)
-        begins = behind is not None or STARTS.match(line) is not None or line.startswith("module ")
+        if behind and not is_rust and not STARTS.match(line):
+            others, gap, last = text.rpartition("\n\n")
+            found[-1] = Block(path, is_rust, f"{others}{gap}{mark} {behind[2]}\n{last}{behind[1]}\n")
+            continue
+        begins = behind is not None or STARTS.match(line) is not None
         above = text.rstrip("\n").split("\n")[-1]
-        inside = re.match(r"  (?:--|abbrev |unfoldable |pub record)", line) is not None and text.rpartition("\n\n")[2].startswith("module ")
         is_new = (begins or line.startswith(mark)) and not above.startswith(mark)
-        if inside and not above.startswith(("  --", "module ")):
-            module = text.rpartition("\n\n")[2].split("\n")[0]
-            text += f"\n{module}\n"
+        if is_rust and (line.startswith("impl") and begins or is_new and text.startswith("impl") and above == "}"):
+            found.append(Block(path, is_rust, ""))
+            text = ""
         elif text and is_new:
             text += "\n"
         lines = f"{mark} {behind[2]}\n{behind[1]}" if behind else line
         found[-1] = Block(path, is_rust, f"{text}{lines}\n")
-    return found
+    return [it for it in found if it.text]
 
 
 def words(text: str) -> "List[str]":
@@ -147,37 +152,51 @@ def flat(lines: "Iterable[str]") -> str:
     """Lines as one, with a single blank between words and none inside a bracket's ends, and of comments the words alone."""
     stripped = (it.strip() for it in lines)
     text = " ".join(" ".join(re.sub(r"^(?:///?|--)(?= )", "", it) for it in stripped).split())
-    return f" {text.replace('( ', '(').replace(' )', ')')} "
+    return f" {PROVERS.sub('', text).replace('( ', '(').replace(' )', ')')} "
 
 
-def restored(text: str, source: str, path: str) -> str:
-    """The text with each name of a crate, `crate::name`, as its source's file calls it: by its imports, or its own."""
-    own = path.split("/")[1]
+def prefixed(page: str) -> "Set[str]":
+    """The names before which the page writes a crate or a file."""
+    return set(re.findall(r"(?<![\w:])\w+::\w+", page))
+
+
+def called_in(source: str, own: str) -> "Dict[Tuple[str, str], str]":
+    """By the crate, or the file, and the name of what a source imports, what the source calls it."""
     called: "Dict[Tuple[str, str], str]" = {}
-    for crate, names in re.findall(r"use (?:Rattle\.)?(\w+)[.:][\w.:]*?[.:]\{([^}]*)\}", source):
+    for crate, file, names in re.findall(r"use (?:Rattle\.)?(\w+)[.:](?:[\w.:]*?[.:])??(\w*)[.:]\{([^}]*)\}", source):
         for one in names.split(","):
             name, _, other = one.strip().partition(" as ")
-            called.setdefault((own if crate == "crate" else crate, name), other or name)
+            for place in (own if crate == "crate" else crate, file):
+                called.setdefault((place, name), other or name)
     for crate, name in re.findall(r"use (\w+)::(?:\w+::)*(\w+);", source):
         called.setdefault((own if crate == "crate" else crate, name), name)
+    return called
 
-    for (crate, name), other in called.items():
-        if crate == "std" and other != name:
-            text = re.sub(rf"(?<![\w.:]){name}(?!\w)", other, text)
-    modules = re.findall(r"use Rattle\.(\w+)\.specs\.\w+ as (\w+)", source)
+
+def restored(text: str, source: str, path: str, known: "Set[str]") -> str:
+    """The text with each name as its source's file calls it: by its imports, or its own. Known are the names with a crate or a
+    file before them on the page."""
+    own, places = path.split("/")[1], {path.split("/")[1], path.split("/")[-1].split(".")[0]}
+    called = called_in(source, own)
+    for crate, kind, word in re.findall(r"use Rattle\.(\w+)\.[\w.]*\.(\w+)\.TheVariants as (\w+)", source):
+        text = re.sub(rf"(?<![\w.:])(?:{crate}::)?{kind}\.(?=[A-Z])", f"{word}.", text)
+    modules = re.findall(r"use Rattle\.(\w+)\.specs\.(\w+) as (\w+)", source)
+    rust = set(re.findall(r"\b[A-Z]\w+", " ".join(re.findall(r"^(?:pub )?(?:use [^;]*;|(?:struct|enum|type) \w+)", source, re.M)))) if path.endswith(".rt") else set()
+    shown_so = {name for place, name in called if f"{place}::{name}" in known}
+    plain = {name: other for (_, name), other in called.items() if other != name and name not in rust | shown_so}
+    plain.update({name: f"{word}.{name}" for crate, _, word in modules for name in re.findall(rf"\b{word}\.(\w+)", source)
+                  if not {f"{crate}::{name}", *(f"{it}::{name}" for it in places)} & known and (crate, name) not in called})
 
     def back(found: "re.Match[str]") -> str:
-        several = [f"{word}.{found[2]}" for crate, word in modules if crate == found[1] and f"{word}.{found[2]}" in source]
+        several = [f"{word}.{found[2]}" for crate, file, word in modules if found[1] in (crate, file) and f"{word}.{found[2]}" in source]
         if several and (found[1], found[2]) not in called:
             return several[0]
-        if found[1] == own and re.search(rf"(?:^|\s){found[2]}(?= [:({{]|;|<)", source):
+        if found[1] in places and re.search(rf"(?:^|\s){found[2]}(?= [:({{]|;|<)", source):
             return found[2]
         return called.get((found[1], found[2]), found[2] if found[1] == own else found[0])
 
-    text = re.sub(r"(?<![\w:])(\w+)::(\w+)", back, text)
-    for kind, word in re.findall(r"\.(\w+)\.TheVariants as (\w+)", source):
-        text = re.sub(rf"(?<![\w.:]){kind}\.(?=[A-Z])", f"{word}.", text)
-    return text
+    text = re.sub(r"(?<![\w.:])(\w+)(?!\w|::)", lambda it: plain.get(it[1], it[0]), text)
+    return re.sub(r"(?<![\w:])(\w+)::(\w+)", back, text)
 
 
 def contract(source: str, name: str) -> "List[str]":
@@ -197,7 +216,7 @@ def rust_faults(block: Block, source: str) -> "Iterator[str]":
     if block.text.startswith("impl"):
         head, calls = block.text.rstrip().rstrip("}").split("\n", 1)
         whole = words(re.sub(r",\s*>", ">", source))
-        for part in (head, *(f"{it} {{" for it in calls.split("\n\n"))):
+        for part in (head, *(f"{it} {{" for it in re.split(r"\n(?=    pub)", re.sub(r"^ +///.*\n", "", calls, flags=re.M)))):
             if not stands_in(words(part), whole):
                 yield f"{block.path}: this isn't the source's: {part}"
     for kind, name, text in shown(block.text):
@@ -240,12 +259,18 @@ def record_lines(lines: "List[str]", name: str) -> "List[str]":
 
 def has_none(text: "List[str]", lines: "List[str]") -> bool:
     """Whether no sentence stands above this in its file."""
-    at = next((at for at, line in enumerate(lines) if flat([line]).startswith(flat(text[:1]))), 0)
+    at = next((at for at, line in enumerate(lines) if line.strip() and flat(text[:1]).startswith(flat([line]))), 0)
     return at > 0 and not lines[at - 1].startswith("--")
+
+
+def runs(lines: "List[str]") -> "Set[str]":
+    """What stands between empty lines and comments: a definition as a whole."""
+    return {flat(run) for is_code, run in itertools.groupby(lines, lambda it: bool(it.strip()) and not it.strip().startswith("--")) if is_code}
 
 
 def spec_faults(block: Block, source: str) -> "Iterator[str]":
     lines = source.split("\n")
+    definitions = runs(lines)
     plain = [it.strip() for it in lines if it.strip()]
     whole = flat(plain)
     for part in block.text.strip("\n").split("\n\n"):
@@ -253,7 +278,7 @@ def spec_faults(block: Block, source: str) -> "Iterator[str]":
         own = own[own[0].startswith("module _"):]
         sentence = [it for it in own if it.startswith("--")]
         text = own[len(sentence):]
-        if flat(text) not in whole or not (flat(sentence) in whole if sentence else has_none(text, plain)):
+        if flat(text) not in definitions or not (flat(sentence).rstrip() in whole if sentence else has_none(text, plain)):
             yield f"{block.path}: {own[-1]} doesn't stand so in the source"
     shown_lines = block.text.split("\n")
     for line in shown_lines:
@@ -264,9 +289,9 @@ def spec_faults(block: Block, source: str) -> "Iterator[str]":
 
 def defined(text: str) -> "Set[str]":
     """The names that a text of specs/ or of src/ defines: at its margin, or in a module with parameters."""
-    specs = r"^(?:(?:(?:abbrev|unfoldable|pub|record|data) )+|  (?:abbrev|unfoldable) pub )(\S+?)(?= [:({])"
+    specs = r"^(?:(?:(?:abbrev|unfoldable|pub) )*(?:(?:record|data) (\S+?)(?= [:({])|([^\s=(]+)(?= : ))|  (?:abbrev|unfoldable) pub (\S+?)(?= [:({]))"
     sources = r"^(?:pub(?:\(\w+\))? )?(?:struct|enum|trait|const|type) ((?:\w+::)?\w+)"
-    return {*re.findall(specs, text, re.M), *re.findall(sources, text, re.M)}
+    return {name for names in re.findall(specs, text, re.M) for name in names if name} | set(re.findall(sources, text, re.M))
 
 
 def bound(text: str) -> "Set[str]":
@@ -277,10 +302,18 @@ def bound(text: str) -> "Set[str]":
     return {name for it in [*found, *variants, *re.findall(r"^\w+ ([^=:\n]*) =", text, re.M)] for name in re.findall(r"\w+", it)}
 
 
+def twice(page: str) -> "List[str]":
+    """The names that the page gives to two definitions; a type of Rust and a record may share one."""
+    found: "List[Tuple[bool, str]]" = []
+    for block in blocks(page):
+        found += [(block.is_rust, name) for part in block.text.split("\n\n") for name in defined(part)]
+    return sorted({name for is_rust, name in found if found.count((is_rust, name)) > 1})
+
+
 def outsiders(page: str, top: str) -> "List[str]":
     """What the theorem names and doesn't define, though some crate defines it, but for the names of its premise."""
     own = "".join(it.text for it in theorem_blocks(page))
-    clauses = "".join(re.findall(r"^    (?:requires|ensures).*?(?=^    (?:requires|ensures)|^```)", theorem(page), re.M | re.S))
+    clauses = "".join(re.findall(r"(?:requires|ensures) \{.*", "".join(it.text for it in blocks(theorem(page)) if it not in theorem_blocks(page))))
     used = used_in(re.sub(r"^\s*(?:--|///).*", "", own, flags=re.M) + clauses)
     known: "Set[str]" = set()
     for path in [*glob.glob(f"{top}/crates/*/specs/**/*.antt", recursive=True), *glob.glob(f"{top}/crates/*/src/**/*.rt", recursive=True)]:
@@ -298,7 +331,10 @@ def used_in(text: str) -> "Set[str]":
 def parts_of(block: Block) -> "List[str]":
     """The definitions of a block, or its one contract, without comments and texts."""
     code = re.sub(r'b?"[^"]*"|b?\'.\'', "", re.sub(r"^\s*(?:--|///?) .*|(?<=\S)  (?://|--) (?!in clauses: ).*", "", block.text, flags=re.M))
-    return [code] if block.is_rust else code.split("\n\n")
+    if block.is_rust:
+        return [code]
+    lines = (BESIDE.sub("\n" + " " * (len(line) - len(line.lstrip())), line) for line in code.split("\n"))
+    return "\n".join(lines).split("\n\n")
 
 
 def bound_wide(text: str) -> "Set[str]":
@@ -317,8 +353,10 @@ def nowhere(page: str) -> "List[str]":
     everything = "\n".join(it.text for it in found)
     known = defined(everything) | WORDS
     known |= {it for row in re.findall(r"^\| (`[^|]*`) \|", page, re.M) for it in re.findall(r"`(?:[\w.]*\.)?(\w+)`", row)}
+    told = page.partition("## Names that the other calls use")[2].partition("\n## ")[0] + "".join(re.findall(r"^Besides, these promises name types.*", page, re.M))
+    known |= {name for row in re.findall(r"(?<=\. )(?:`[\w.]+`(?:, )?)+(?=: )", told) for name in re.findall(r"`(?:[\w.]*\.)?(\w+)`", row)}
     known |= set(re.findall(r"`([A-Za-z]\w+)", page.split("## The theorem")[0]))
-    known |= set(re.findall(r"^`crates/\S+`:\n```rust\n(?:.*\n)*?pub fn (\w+)", page, re.M))
+    known |= set(re.findall(r"^pub fn (\w+)", everything, re.M))
     variants = re.findall(r"^(?:pub(?:\(crate\))? )?enum [\w:]+(?:<[^{]*>)? \{(.*?)\}$", everything, re.M | re.S) + re.findall(r"^  (\w+) : ", everything, re.M)
     known |= {name for it in variants for name in re.findall(r"\b[A-Z]\w*", it)}
     missing: "Set[str]" = set()
@@ -333,12 +371,13 @@ def nowhere(page: str) -> "List[str]":
 def faults(page: str, top: str) -> "List[str]":
     """All that the page shows otherwise than the sources below this folder have it."""
     found: "List[str]" = []
+    known = prefixed(page)
     for block in blocks(page):
         with open(f"{top}/{block.path}") as file:
             source = file.read()
         # (the head of an impl block may stand on two lines)
         text = re.sub(r"^(impl<.*>)\n    (\w.* \{)$", r"\1 \2", block.text, flags=re.M)
-        own = block._replace(text=restored(text, source, block.path))
+        own = block._replace(text=restored(text, source, block.path, known))
         found += (rust_faults if block.is_rust else spec_faults)(own, source)
     return found
 
@@ -368,5 +407,5 @@ def cuts(block: Block) -> "Iterator[Tuple[str, str]]":
                 yield f"{several[1]} of {name}", block.text.replace(text, re.sub(r"\{ [^,]*, ", "{ ", text, count=1))
         return
     for line in block.text.split("\n"):
-        if re.match(r"\s+pub \w+ :", line):
+        if re.match(r"  \w+ :|\w+ (?!: ).* = ", line):
             yield line.strip(), block.text.replace(f"{line}\n", "", 1)
