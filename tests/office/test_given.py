@@ -204,9 +204,9 @@ class Table(Given):
         ranks = "the rank of who is refused, and the last rank that got a place"
         made = [LINE.format("File", "Who gets it", "What it tells about other members"), "|---|---|---|"]
         for begin, title, who in FILES:
-            told = [("the last rank that got a place" if begin.startswith("public") else "for each reason `full`, the resident's rank and the last rank "
-                     "that got a place") if one == ranks else says[one] for one in gives[begin]]
-            made.append(LINE.format(title, who, " and ".join(told) or "nothing but roots"))
+            told = [("the rank of the last resident who got a place at each programme" if begin.startswith("public") else "for each reason `full`, the "
+                     "resident's rank and the rank of the last resident who got a place") if one == ranks else says[one] for one in gives[begin]]
+            made.append(LINE.format(title, who, ", and ".join(told) or "nothing but roots"))
         self.assertIn("\n".join(made), (TOP / "docs" / "sealed.md").read_text(encoding="utf-8"), "\n".join(made))
 
 
