@@ -72,10 +72,9 @@ fault_of_most most n e (inl m) = inl m
 fault_of_most most n e (inr t) = inr (t.0, ltb-true most n t.1)
 
 -- a fault without a limit is out of memory
-pub memory_alone : {T : Type 0} (n : ℕ) (r : Result T ModelFault) → IfErr r (IsGatherFault None n) → IfErr r (λ fault. fault ≡ Memory)
-memory_alone n (Ok v) h = tt
-memory_alone n (Err e) (inl m) = m
-memory_alone n (Err e) (inr t) = absurd (false≢true t.1)
+pub memory_alone : (n : ℕ) (e : ModelFault) → IsGatherFault None n e → e ≡ Memory
+memory_alone n e (inl m) = m
+memory_alone n e (inr t) = absurd (false≢true t.1)
   where
     false≢true : false ≡ true → ⊥
-    false≢true e = cc
+    false≢true h = cc

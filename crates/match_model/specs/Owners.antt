@@ -52,3 +52,9 @@ pub record AreRows (count n : ℕ) (rows : List (List ℕ)) : Type 0 where
 -- every item of list i also stands in row i
 abbrev pub AreCovered : List (List ℕ) → List (List ℕ) → Type 0
 AreCovered lists rows = (i x : ℕ) → is_listed (list_at lists i) x ≡ true → is_listed (list_at rows i) x ≡ true
+
+-- each list has a row with all of the list's items, sorted by number
+pub record AreChoices (lists rows : List (List ℕ)) : Type 0 where
+  pub one_row_each : length rows ≡ length lists
+  pub covered : AreCovered lists rows
+  pub rising : All IsNonDecreasing rows
