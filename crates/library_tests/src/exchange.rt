@@ -67,6 +67,33 @@ fn refuses(
     }
 }
 
+// Whether the core accepts these events, and then has this rank of the offer that X took last.
+fn takes_last(run: &mut Run, events: &[Event], rank: u32) -> bool {
+    for event in events {
+        if run.step(*event).is_err() {
+            return false;
+        }
+    }
+    run.core.taken_rank(X) == rank
+}
+
+// Whether a new core accepts these events, and then has this rank of the offer that X took last.
+fn takes(alloc: Global, events: &[Event], rank: u32) -> bool {
+    match begin(alloc, TWO_PLACES, Capacity::Full) {
+        Ok(mut run) => takes_last(&mut run, events, rank),
+        Err(_) => false,
+    }
+}
+
+#[test]
+fn knows_the_rank_taken_last(rt: HostRuntime) {
+    let all = nineteen_events();
+    for (count, rank) in [(3, 0), (4, 1), (8, 0)] {
+        let events = &all[..count.min(19)];
+        assert!(rt; takes(rt.alloc(), events, rank), "{count}");
+    }
+}
+
 const LARGE: (Members, Capacity) = (TWO_PLACES, Capacity::Full);
 
 const NARROW: (Members, Capacity) = (TWO_PLACES, Capacity::Each(1));

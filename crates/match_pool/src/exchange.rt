@@ -206,6 +206,12 @@ impl<J: ExchangeIdentity, M: Mailboxes> Exchange<J, M> {
         }
     }
 
+    /// A guess of the rank of the offer that the resident took last.
+    #[inline(always)]
+    pub(crate) fn taken_rank(&self, resident: ResidentNo) -> u32 {
+        self.ledger.core().taken_rank(resident)
+    }
+
     /// Enters a hear, which makes room in its mailbox. If the core refuses the hear, the ledger accepts no further
     /// event.
     pub(crate) fn hear(

@@ -230,6 +230,7 @@ impl<'a, 'f, J: ExchangeIdentity + WorkersIdentity, M: Mailboxes, G: Gate, R: Wa
     }
 
     // Makes the programme's next offer, if the programme has a wish.
+    #[inline(always)]
     fn offer_next(&mut self, seat: &mut ProgrammeSeat<J, M>, programme: ProgrammeNo) -> Step {
         match seat.wish(self.inst) {
             Some(resident) => self.offer(seat, programme, resident),
@@ -274,8 +275,9 @@ impl<'a, 'f, J: ExchangeIdentity + WorkersIdentity, M: Mailboxes, G: Gate, R: Wa
         let entry = exchange
             .value()
             .take(self.inst, &mut self.tally, resident, programme);
+        let guess = exchange.value().taken_rank(resident);
         self.inner.give_back(exchange);
-        seat.decide(self.inst);
+        seat.decide(self.inst, guess);
         self.after_receipt(entry)
     }
 
