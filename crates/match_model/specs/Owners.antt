@@ -15,7 +15,7 @@ pub record AreOwners (count n : ℕ) (lists rows : List (List ℕ)) : Type 0 whe
   pub one_each : length rows ≡ count
   pub row : (x : ℕ) → x < count → list_at rows x ≡ owners_below n lists x
 
--- the item after this step if the test is true, else the item itself
+-- the item after the step if the test is true, else the item as it was
 abbrev pub stepped : {T : Type 0} → (T → T) → Bool → T → T
 stepped step true item = step item
 stepped step false item = item
