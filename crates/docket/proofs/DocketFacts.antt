@@ -72,8 +72,8 @@ pub sheet_free : (rows : List Fields) → has_sheet rows ≡ false → sheet_fau
 unfolding sheet_fault
 sheet_free rows e = rw e refl
 
--- the first fault after the first pass is that of the lists, else of the pairs, else of the sheet, else of the
--- events
+-- the first fault after the first pass is the lists' fault, else the fault of too many pairs, else the
+-- sheet's, else the events'
 pub later_is : (lim : Limits) (rows : List Fields) → later_fault lim rows
     ≡ option_or (option_or (first_from (ranking_fault rows) [] rows) (pairs_fault lim rows)) (option_or (sheet_fault rows) (first_from (event_fault rows) [] rows))
 unfolding later_fault

@@ -12,7 +12,7 @@ use Rattle.match_model.proofs.Counts.{count_of}
 use Rattle.match_model.proofs.Listed.{count_from_no_repeats, no_repeats_from_count, listed_push_parts, listed_push_before, listed_push_last, no_repeats_push, no_repeats_last}
 use Rattle.settle_law.proofs.Places.{HasNoRepeats-nil, IsListed-nil, IsListed-get_or, get_or-place}
 
--- the selected items: those of the list for which P holds, each once
+-- the selected items are the items of the list for which P holds, each once
 pub record Keeps (P : ℕ → Type 0) (xs kept : List ℕ) : Type 0 where
   pub once : HasNoRepeats kept
   pub each : (x : ℕ) → IsListed kept x ↔ (IsListed xs x × P x)

@@ -18,8 +18,8 @@ use Rattle.reasons_text.specs.declared.fault.WhyFault.{WhyFault}
 use Rattle.reasons_text.specs.declared.fault.WhyFault.TheVariants.{Docket, Reading, NoSheet, BadKey, DoubledKey, NoResident, NoProgramme, ManyResidents, ManyProgrammes, Records, EmptySheet}
 use Rattle.reasons_text.specs.Naming.{Naming, SideNames, no_names, own_names}
 
--- if the reasons so far are the answers about the first programmes on a resident's list, they are
--- so after the next answer
+-- if the reasons are the answers about the first programmes on a resident's list, and the answer
+-- about the next programme is added, they are the answers about one programme more
 pub AreFirst-push : (c : CaseParts) (r : ℕ) (mine : List ℕ) (reasons : List Why) (reason : Why) (p n : ℕ) → length reasons ≡ n →
     slice_get mine n ≡ Some p → AreFirst c r mine reasons → IsAnswer c r p reason → AreFirst c r mine (reasons ++ reason ∷ [])
 AreFirst-push c r mine reasons reason p n e there h new i q w at told = elim (slice_get_push_parts reasons reason i w told) [
@@ -46,7 +46,7 @@ read_of limits bytes d written h = record {
   members = h.members;
 }
 
--- a docket that was read but gives no case is a reason why there is no case
+-- why a docket that was read gives no case is a fault of reading a case
 pub no_case : (limits : Limits) (bytes : Option (List ℕ)) (d : Contents) (written : Written) (fault : WhyFault) → IsReadWithin limits bytes d written
     → IsOfNoCase d fault → IsCaseFaultWithin limits bytes fault
 no_case limits bytes d written (Docket e) read memory = inr memory

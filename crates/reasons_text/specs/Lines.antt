@@ -70,8 +70,8 @@ abbrev pub lines : Naming → Bool → ℕ → List ℕ → List Why → List �
 lines names without_ranks r programmes reasons =
     flat_map (λ (told : ℕ × Why). line names without_ranks r told.0 told.1) (zip programmes reasons)
 
--- the words that name the programme of a matched resident, and its number among the resident's
--- choices
+-- the sentence for a matched resident: the name of the programme, and which of the resident's
+-- choices it is
 unfoldable pub as_choice : List ℕ → ℕ → ℕ → List ℕ
 as_choice name choice listed =
     codes "You are matched with " ++ (name ++ (codes ", your " ++ (place_text choice ++ (codes " choice of " ++ (decimal listed ++ codes ".")))))

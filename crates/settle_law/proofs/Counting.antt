@@ -16,7 +16,8 @@ pub one_if_le : (b c : Bool) → (b ≡ true → c ≡ true) → one_if b ≤ on
 one_if_le true c h = rw (h refl) (omega arith)
 one_if_le false c h = omega arith
 
--- if at most one of two tests passes, and each only where a third test passes, their number is at most the third test's
+-- if at most one of two tests passes, and each passes only if a third test passes, their numbers together are at most
+-- the third test's number
 pub one_if_apart : (b c d : Bool) → (b ≡ true → d ≡ true) → (c ≡ true → d ≡ true) → (b ≡ true → c ≡ true → ⊥) →
     one_if b + one_if c ≤ one_if d
 one_if_apart true true d h k n = absurd (n refl refl)
@@ -51,7 +52,7 @@ pub sum_by_zeros : (f : ℕ → ℕ) (xs : List ℕ) → ((x : ℕ) → f x ≡ 
 sum_by_zeros f [] h = refl
 sum_by_zeros f (x ∷ xs) h = omega (arith, sum_by-cons f x xs, h x, sum_by_zeros f xs h)
 
--- the sum of two functions together is the sum of the first plus the sum of the second
+-- the sum of f + g over a list is the sum of f plus the sum of g
 pub sum_by-plus : (f g : ℕ → ℕ) (xs : List ℕ) → sum_by (λ x. f x + g x) xs ≡ sum_by f xs + sum_by g xs
 sum_by-plus f g [] = refl
 sum_by-plus f g (x ∷ xs) =

@@ -42,7 +42,7 @@ place-get_or-le (y ∷ ys) (suc k) d l =
 pub IsListed-get_or : (xs : List ℕ) (k d : ℕ) → k < length xs → IsListed xs (get_or xs k d)
 IsListed-get_or xs k d l = let h = place-get_or-le xs k d l in omega arith
 
--- an item is listed in a list that it was added to in front
+-- the first item of a list is listed
 pub IsListed-cons_same : (y : ℕ) (ys : List ℕ) → IsListed (y ∷ ys) y
 IsListed-cons_same y ys = let e = place-head y ys in omega arith
 

@@ -45,7 +45,7 @@ many_mutual ms fs ts gs = length-mutual_lists (lists_left ms fs) (lists_left ts 
 many_rows : (ms : List (Option (List ℕ))) (fs : List Bool) (ts : List (Option (List ℕ))) (gs : List Bool) (rows : RowLists ℕ) → rows ≡ record { rows = mutual_left ms fs ts gs; begun = [] } → length rows.rows ≡ length ms
 many_rows ms fs ts gs rows e = ap (λ (v : RowLists ℕ). length v.rows) e ∙ many_mutual ms fs ts gs
 
--- the ranks of offers are right for lists that are equal to the lists read
+-- ranks of offers that are right for some lists are right for equal lists
 same_offer_ranks : (ps ps' rs rs' ranks : List (List ℕ)) → ps ≡ ps' → rs ≡ rs' → AreOfferRanks ps rs ranks → AreOfferRanks ps' rs' ranks
 same_offer_ranks ps ps' rs rs' ranks p r h = subst (λ (ls : List (List ℕ)). AreOfferRanks ls rs' ranks) p (subst (λ (ls : List (List ℕ)). AreOfferRanks ps ls ranks) r h)
 
