@@ -26,8 +26,8 @@ pub enum FilesFault {
     Write,
 }
 
-/// A fault of the docket's reader, as a fault of the audit over files. Running out of memory belongs
-/// to no file.
+/// A fault of the docket's reader, as a fault of the audit over files. Out of memory is no fault of
+/// a file.
 pub fn told(there: FileFault) -> FilesFault
     ensures { result ≡ spec.told there }
 {

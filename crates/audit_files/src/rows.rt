@@ -44,8 +44,8 @@ pub(crate) fn put_long_row(
     put(text, b"\n")
 }
 
-/// Adds the row about the match's result. The row says that the sheet is the result, or names the first resident for
-/// whom the sheet differs.
+/// Adds the row about the match's result: that the sheet is the result, or the first resident for whom the sheet
+/// differs from it.
 pub(crate) fn put_result(
     text: &mut Vec<u8>,
     docket: &Docket,

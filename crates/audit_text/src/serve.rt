@@ -68,7 +68,7 @@ fn counts_of(alloc: Global, journal: &Journal) -> Result<Option<Vec<u64>>, Answe
     }
 }
 
-// The counts as a slice, if there are counts.
+// The workers' counts as a slice, if there are any.
 fn lent(counts: &Option<Vec<u64>>) -> Option<&[u64]>
     ensures { option_copied result ≡ option_map (λ (v : Vec ℕ). v.items) counts.now }
 {

@@ -153,7 +153,8 @@ impl<J: WorkersIdentity> Shift<J> {
         }
     }
 
-    /// A worker that looks for a desk rests, if some other worker has a desk. Otherwise the worker has to look on.
+    /// Lets a worker that looks for a desk rest, if some other worker has a desk. Otherwise the worker goes on
+    /// looking.
     pub fn rests(&mut self, own: Looking<J>) -> Result<Resting<J>, Looking<J>>
         ensures rests { IfOk result (λ _. (self.new.resting ≡ self.old.resting + 1)
             × (self.new.looking + 1 ≡ self.old.looking)) }

@@ -150,8 +150,8 @@ pub struct Crew<J: WorkersIdentity> {
 }
 
 /// How many workers have begun, and how many of them have no desk. Three ledgers count the workers that have a desk,
-/// those that look for a desk, and those that rest. Each worker's token is the worker's part of these ledgers. At no
-/// time do all workers rest.
+/// that look for a desk, and that rest. Each worker's token is the worker's part of these ledgers. At no time do all
+/// workers rest.
 #[derive(Drop)]
 pub struct Workers<J: WorkersIdentity> {
     begun: u64,
@@ -303,8 +303,8 @@ impl<J: WorkersIdentity> Workers<J> {
         }
     }
 
-    /// Lets a worker that looks for a desk rest, if some other worker has a desk. Otherwise the worker has to look
-    /// on.
+    /// Lets a worker that looks for a desk rest, if some other worker has a desk. Otherwise the worker goes on
+    /// looking.
     pub fn rests(&mut self, own: Looking<J>) -> Result<Resting<J>, Looking<J>>
         ensures rests { IfOk result (λ _. (self.new.resting.total ≡ self.old.resting.total + 1)
             × (self.new.looking.total + 1 ≡ self.old.looking.total)) }

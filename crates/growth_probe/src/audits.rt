@@ -151,7 +151,8 @@ pub(super) fn answer<W: Write>(alloc: Global, out: &mut W) -> Seen {
     Seen::at_once(answer == Ok(()) && room.as_slice() == b"G,9\n".as_slice())
 }
 
-// The answer of a check of the docket's journal against its sheet; `NotClosed` if one of them is missing.
+// The answer of a check of the docket's journal against its sheet; `NotClosed` if the journal or the
+// sheet is missing.
 fn check_of(alloc: Global, docket: &Docket) -> Result<Replayed, ReplayFault> {
     let (Some(journal), Some(sheet)) = (docket.journal(), docket.sheet()) else {
         return Err(ReplayFault::NotClosed);

@@ -51,7 +51,7 @@ pub(super) fn add_resident<W: Write>(alloc: Global, out: &mut W) -> Seen {
     Seen::at_once(answer == Ok(X) && has(builder, 0, 1, 0))
 }
 
-// Whether the resident's list can be given, after which the programme and the resident are an acceptable
+// Whether the resident's list can be given, so that the programme and the resident are an acceptable
 // pair.
 fn pairs_with_resident(mut builder: InstanceBuilder) -> bool {
     builder.resident_list(X, &[A]) == Ok(()) && has(builder, 1, 1, 1)
@@ -72,7 +72,7 @@ pub(super) fn programme_list<W: Write>(alloc: Global, out: &mut W) -> Seen {
     Seen::at_once(answer == Ok(()) && pairs_with_resident(builder))
 }
 
-// Whether the programme's list can be given, after which the programme and the resident are an acceptable
+// Whether the programme's list can be given, so that the programme and the resident are an acceptable
 // pair.
 fn pairs_with_programme(mut builder: InstanceBuilder) -> bool {
     builder.programme_list(A, &[X]) == Ok(()) && has(builder, 1, 1, 1)

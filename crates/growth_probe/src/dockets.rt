@@ -21,7 +21,7 @@ pub(super) fn room(alloc: Global) -> Result<Vec<u8>, AllocError> {
     Vec::with_capacity(alloc, 4_096)
 }
 
-/// These texts, one after another.
+/// These texts as one text, one after another.
 pub(super) fn joined(alloc: Global, texts: &[&str]) -> Result<Vec<u8>, AllocError> {
     let mut all = Vec::new(alloc);
     for text in texts {

@@ -44,7 +44,7 @@ pub(super) fn core<W: Write>(alloc: Global, out: &mut W) -> Seen {
     }
 }
 
-// Whether a mailbox with room for two messages accepts two messages and returns the first.
+// Whether the mailbox accepts two messages and returns the first.
 fn has_two_places<R: Wait + Copy>(mut put: RuledPut<u32, R>, mut take: RuledTake<u32, R>) -> bool {
     put.put(5) == PutReply::Done
         && put.put(6) == PutReply::Done
@@ -73,7 +73,7 @@ pub(super) fn mailbox_of_two<R: Wait + Copy + Drop, W: Write>(
     }
 }
 
-// Whether a list with room for one message accepts one message and refuses a second.
+// Whether the list accepts one message and refuses a second.
 fn has_one_place(mut list: ListPut<u32>) -> bool {
     list.put(5) == PutReply::Done && list.put(6) == PutReply::Full(6)
 }
@@ -180,7 +180,7 @@ pub(super) fn resident_agent<W: Write>(alloc: Global, out: &mut W) -> Seen {
     }
 }
 
-// Whether a run with three residents closed with each of them matched as expected, or the run's fault.
+// Whether a run with three residents closed with the expected matches, or the run's fault.
 fn closes<R: Threads + Wait + Sync + Send + Copy>(
     rt: R,
     alloc: Global,

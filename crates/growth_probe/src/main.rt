@@ -94,7 +94,8 @@ fn words(rt: &HostRuntime) -> io::Result<Vec<String>> {
     Ok(env::args(rt)?.skip(1).collect(rt.alloc())?)
 }
 
-// Makes the call with this name, and prints what the call did. Returns whether this was right.
+// Makes the call with this name, and prints what the call did. Returns whether the call did what it
+// should.
 fn told<H: Threads + Wait + RandomSource + Sync + Send + Copy + Drop, W: Write>(
     rt: H,
     alloc: Global,

@@ -1,7 +1,7 @@
-//! What a call was seen to do, and the marks before and after the call.
+//! What a call did, and the marks in the output before and after the call.
 use std::io::Write;
 
-/// What a call was seen to do.
+/// What a call did.
 #[derive(Clone, Copy, Debug, PartialEq, Eq)]
 pub(super) enum Seen {
     /// The call gave its right answer.
@@ -16,7 +16,7 @@ pub(super) enum Seen {
 }
 
 impl Seen {
-    /// What was seen of a call that answered without a fault, rightly or not.
+    /// What a call did that answered without a fault; `is_right` says whether its answer was right.
     pub(super) fn at_once(is_right: bool) -> Seen {
         if is_right {
             Seen::Answered
@@ -25,8 +25,8 @@ impl Seen {
         }
     }
 
-    /// What was seen of a call that first answered that memory ran out, and the second time answered rightly
-    /// or not.
+    /// What a call did that first answered that memory ran out; `is_right` says whether its second answer
+    /// was right.
     pub(super) fn after_memory(is_right: bool) -> Seen {
         if is_right {
             Seen::WantedMemory
@@ -35,8 +35,8 @@ impl Seen {
         }
     }
 
-    /// What was seen of a call that first answered that a worker could not be started, and the second time
-    /// answered rightly or not.
+    /// What a call did that first answered that a worker could not be started; `is_right` says whether its
+    /// second answer was right.
     pub(super) fn after_thread(is_right: bool) -> Seen {
         if is_right {
             Seen::WantedThread
@@ -45,7 +45,7 @@ impl Seen {
         }
     }
 
-    /// The word for what was seen.
+    /// The word for what the call did.
     pub(super) fn text(self) -> &'static str {
         match self {
             Seen::Answered => "answered",

@@ -15,7 +15,7 @@ use std::test::Fail;
 use test_support::events::{A, B, HOLD, RELEASE, X, Y, Z};
 use test_support::instances::{TWO_PLACES, made};
 
-// What a resident's agent answers to a take, and which two answers it gives afterwards.
+// What a resident's agent takes out of its mailbox, and the two answers that it then gives.
 type Taken = (
     Option<Heard<OfferNote>>,
     [Option<(ProgrammeNo, AnswerKind)>; 2],
@@ -90,7 +90,8 @@ const ANSWERS: [AnswerNote; 3] = [
     },
 ];
 
-// Whether the desk hears these answers and then gets the reply `last`, and then has the expected log.
+// Whether the desk hears these answers, gets the reply `last` at the next look, and then has the
+// expected log.
 fn hears_so<T: TakeEnd<AnswerNote> + Drop>(
     run: &mut ProgrammeRun<T>,
     answers: &[AnswerNote],

@@ -116,8 +116,8 @@ const NO_PLACE: Option<Refused> = Some(Refused::NoPlace);
 
 const WRONG_FRONT: Option<Refused> = Some(Refused::WrongFront);
 
-// For each of the nineteen events, another event that is tried after it, and the cause for which that event may not
-// follow, if it may not.
+// For each of the nineteen events, another event that is tried after it, and the cause that refuses this other
+// event, or none.
 fn others() -> [(Event, Option<Refused>); 19] {
     [
         (offer(A, Y), None),
@@ -165,16 +165,16 @@ const SEEN: [Seen; 19] = [
     (None, None, Some(B), None),
 ];
 
-// Whether the core answers as expected to the other event, shows what is expected of A and X, and is closed or not as
-// expected.
+// Whether the core answers as expected to the other event, shows what it should of A and X, and is closed exactly if
+// it should be.
 fn shows(run: &Run, other: &(Event, Option<Refused>), seen: &Seen, is_closed: bool) -> bool {
     run.may(other.0).err() == other.1
         && run.seen(A, X) == *seen
         && run.core.is_closed() == is_closed
 }
 
-// The number of the first of the nineteen events, from 1, that the core doesn't accept, or after which it doesn't
-// show what is expected.
+// The number, from 1, of the first of the nineteen events that the core refuses, or after which it doesn't show
+// what it should.
 fn first_wrong(run: &mut Run) -> Option<usize> {
     let (events, others) = (nineteen_events(), others());
     for at in 0..19_usize {

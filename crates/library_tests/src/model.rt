@@ -68,7 +68,7 @@ fn two_and_three(alloc: Global) -> Result<InstanceBuilder, ModelFault> {
     Ok(builder)
 }
 
-// An instance in which a programme and two residents list each other and others, so that it has only the mutual parts
+// The instance of a programme and two residents who list each other and further members. It has only the mutual parts
 // of these lists.
 fn mutual_parts(alloc: Global) -> Result<Instance, ModelFault> {
     let mut builder = two_and_three(alloc)?;
@@ -179,7 +179,7 @@ fn reads_the_list_of_whoever_is_withdrawn(rt: HostRuntime) -> Result<(), Fail> {
 }
 
 // Two programmes and three residents with all their lists. These members are withdrawn before the lists are given if
-// `first` is set, else after it.
+// `withdraws_first` is set, else afterwards.
 fn without(
     alloc: Global,
     first: bool,
@@ -279,8 +279,7 @@ fn takes_as_many_pairs_as_there_may_be(rt: HostRuntime) -> Result<(), Fail> {
     Ok(())
 }
 
-// Adds a resident, and the greatest number of programmes that there may be. Each programme added here ranks this
-// resident.
+// Adds a resident, and as many programmes as there may be. Each of these programmes ranks this resident.
 fn add_most(alloc: Global, builder: &mut InstanceBuilder) -> Result<Vec<ProgrammeNo>, ModelFault> {
     builder.add_resident()?;
     let mut programmes = Vec::new(alloc);

@@ -69,9 +69,9 @@ pub fn is_result(alloc: Global, inst: &Instance, sheet: &Assignment) -> Result<b
     }
 }
 
-/// Lets each programme make offers down its list. If a resident releases a programme, that programme offers next, so
-/// that at the end no programme should have a wish. No clause relies on this: `step_to_the_close` enters whatever
-/// events are left.
+/// Lets each programme make offers down its list. If a resident releases a programme, that programme offers next. At
+/// the end no programme should have a wish, but no clause relies on this: `step_to_the_close` enters all events that
+/// are left.
 fn offer_down_the_lists(core: &mut Core, inst: &Instance)
     requires core { IsCoreOf inst.now core.old }
     requires reached { IsReached inst.now core.old }

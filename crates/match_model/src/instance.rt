@@ -179,8 +179,7 @@ impl Instance {
         rank_in(table, programme.0)
     }
 
-    /// Returns what `rank_at_resident` returns, but looks at the guessed place of the list first. The resident is a
-    /// member.
+    /// The same as `rank_at_resident`, but the guessed place of the list is tried first. The resident is a member.
     #[inline]
     pub fn rank_by_guess(
         &self,

@@ -441,7 +441,7 @@ impl<'a, 'f, J: ExchangeIdentity + WorkersIdentity, M: Mailboxes, G: Gate, R: Wa
         self.or_search(next)
     }
 
-    // The desk that was found, or else the desk that a search finds. Once the run ends, the worker's token comes back
+    // The desk that was found, or else one that a search finds. Once the run ends, the worker's token comes back
     // instead.
     fn or_search(&mut self, found: TurnOf<J>) -> Result<Hand<J>, Looking<J>> {
         match found {

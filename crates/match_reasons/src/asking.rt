@@ -1,4 +1,4 @@
-//! How it is found why a placement does not give a programme to a resident.
+//! How the code finds why a placement does not give a programme to a resident.
 ghost use Rattle.std.specs.Prelude.{◌≡◌, ◌≢◌, length, MatchOption, IfSome};
 ghost use Rattle.match_model.specs.Instance.{IsProgramme, IsResident, list_at};
 ghost use Rattle.settle_law.specs.Stable.{IsStable};

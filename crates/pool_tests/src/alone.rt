@@ -8,7 +8,7 @@ use test_support::events::{A, B, HOLD, RELEASE, X, Y, Z, answer, hear, offer, ta
 use test_support::instances::{Members, TWO_PLACES};
 
 // The journal of a run by one worker over `TWO_PLACES`, through full mailboxes. The worker visits residents before
-// programmes, and of these the one that was woken last. Programmes that are woken only for a hold come last.
+// programmes, and on each side the desk that was woken last. Programmes that were woken only for a hold come last.
 fn journal_by_one() -> [Event; 19] {
     [
         offer(A, X),
@@ -69,7 +69,7 @@ fn what_a_visit_woke_comes_before_any_programme(rt: HostRuntime) -> Result<(), F
 }
 
 // Markets whose mailboxes have room for one message. In each a programme waits for room in a resident's mailbox,
-// while an answer of another resident waits for the programme. When there is room and the programme is called, it
+// while an answer of another resident waits for the programme. When there is room, the programme is called: it
 // offers first, and then hears that answer.
 const CALLED: [(Members, Event, Event); 3] = [
     (

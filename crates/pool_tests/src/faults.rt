@@ -11,8 +11,8 @@ use test_gates::gates::{AfterAnother, Counting};
 use test_support::events::{A, B, DECLINE, HOLD, RELEASE, X, Y, Z, hear, take};
 use test_support::instances::{Members, TWO_BY_TWO, TWO_PLACES, has_places, made};
 
-// What a run with this number of workers returns if one mailbox gives a wrong answer: its fault, or whether the run
-// closed with each resident at the expected programme.
+// The outcome of a run with this number of workers in which one mailbox gives a wrong answer: the run's fault, or
+// whether the run closed with each resident at the expected programme.
 fn told_by<G: Gate + Sync, R: Threads + Wait + Sync + Send + Copy>(
     rt: R,
     alloc: Global,
@@ -153,14 +153,14 @@ fn tells_the_desk_that_is_left_pending(rt: HostRuntime) {
     }
 }
 
-// A slip in which the resident's first take gives an offer of this programme, with the take that the worker then
+// A slip in which the resident's first take gives an offer of this programme, and the take that the worker then
 // tries to enter.
 fn offer_of(resident: ResidentNo, programme: ProgrammeNo) -> (Slip, Event) {
     let slip = TakeSlip::Gives(OfferNote { programme });
     (Slip::Take(resident, 0, slip), take(resident, programme))
 }
 
-// A slip in which the programme's look with this number gives this answer, with the hear that the worker then tries
+// A slip in which the programme's look with this number gives this answer, and the hear that the worker then tries
 // to enter.
 fn answer_of(
     programme: ProgrammeNo,
@@ -190,8 +190,8 @@ fn out_of_step() -> [(Slip, Event); 8] {
     ]
 }
 
-// Whether a run is out of step at this receipt, and its journal has exactly the events that the gate counted, and no
-// close.
+// Whether a run is out of step at this receipt, with a journal of exactly the events that the gate counted, without
+// a close.
 fn is_out_of_step(told: &Result<bool, RunFault>, gate: &Counting, receipt: &Event) -> bool {
     match told {
         Err(RunFault::OutOfStep { journal, event }) => {

@@ -51,7 +51,8 @@ fn is_told(told: &Told, counts: &[u64]) -> bool {
     told.journal.len() as u64 == sum && told.who.len() == told.journal.len()
 }
 
-// Whether a run that was stopped from the call of `pass` with this number on ended as it should.
+// Whether a run ended as it should whose gate stops it at the call of `pass` with this number and
+// at each later call.
 fn is_stopped_from(told: &Told, gate: &StopsFrom, first: u64, workers: usize) -> bool {
     let counts = [0, 1, 2, 3, 4, 5, 6, 7].map(|worker| gate.count(worker));
     let receipts = receipts_of(&told.journal);
@@ -66,7 +67,8 @@ fn is_stopped_from(told: &Told, gate: &StopsFrom, first: u64, workers: usize) ->
         && is_told(told, &counts)
 }
 
-// How a run ended that was stopped from the call of `pass` with this number on; none if it did not end as it should.
+// How a run ended whose gate stops it at the call of `pass` with this number and at each later call; none if it did
+// not end as it should.
 fn stopped_from<R: Threads + Wait + Sync + Send + Copy>(
     rt: R,
     alloc: Global,
@@ -86,7 +88,8 @@ fn stopped_from<R: Threads + Wait + Sync + Send + Copy>(
     }
 }
 
-// Whether runs that were stopped from each of these calls of `pass` on ended as they should.
+// Whether runs ended as they should whose gate stops them at one of these calls of `pass` and at
+// each later call.
 fn stop_well<R: Threads + Wait + Sync + Send + Copy>(
     rt: R,
     alloc: Global,
@@ -141,7 +144,7 @@ fn every_worker_heeds_a_stop(rt: HostRuntime) -> Result<(), Fail> {
     Ok(())
 }
 
-// Whether a run over pairs ends because this worker stopped it, or any worker if none is given.
+// Whether a run over pairs ends because this worker stopped it; any worker, if none is given.
 fn is_stopped_by<R: Threads + Wait + Sync + Send + Copy>(
     rt: R,
     alloc: Global,
@@ -180,7 +183,7 @@ fn a_stop_wakes_who_rests(rt: HostRuntime) -> Result<(), Fail> {
     Ok(())
 }
 
-// The index in the journal of the event that a worker entered after `own` events of its own.
+// The index in the journal of the event that a worker entered after it had entered `own` events.
 fn place_of(told: &Told, worker: usize, own: u64) -> Option<usize> {
     let mut before = 0_u64;
     for (place, of) in told.who.iter().enumerate() {

@@ -58,8 +58,8 @@ const TEN_ANSWERS: Members = (
     &[&[0], &[0], &[0], &[0], &[0], &[0], &[0], &[0], &[0], &[0]],
 );
 
-// There are seventy misses, but at most seven between two entries. Only misses in a row count against a worker's
-// patience.
+// The run has seventy misses, but at most seven between two entries. Only misses in a row count against a
+// worker's patience.
 #[test]
 fn misses_before_an_entry_are_forgotten(rt: HostRuntime) {
     let often = Slip::Answer(A, 0, PutSlip::OftenFull);

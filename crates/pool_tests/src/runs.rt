@@ -11,7 +11,7 @@ use test_support::events::{A, B, X};
 use test_support::instances::{Members, TWO_BY_TWO, TWO_PLACES, has_places, made};
 use test_support::markets::made_in_one_order;
 
-// What is noted of a run: all of its result but the ends and the agents.
+// The result of a run without the ends and the agents.
 #[derive(Drop)]
 pub(crate) struct Told {
     pub(crate) ending: Ending,
@@ -21,7 +21,7 @@ pub(crate) struct Told {
     pub(crate) entered: Vec<u64>,
 }
 
-// Runs the exchange of an instance, and notes what happened.
+// Runs the exchange of an instance, and returns the result without the ends and the agents.
 pub(crate) fn ran_on<G: Gate + Sync, R: Threads + Wait + Sync + Send + Copy>(
     rt: R,
     alloc: Global,
@@ -42,7 +42,7 @@ pub(crate) fn ran_on<G: Gate + Sync, R: Threads + Wait + Sync + Send + Copy>(
     }
 }
 
-// Runs the exchange of these members, and notes what happened.
+// Runs the exchange of these members, as `ran_on` does.
 pub(crate) fn ran<G: Gate + Sync, R: Threads + Wait + Sync + Send + Copy>(
     rt: R,
     alloc: Global,
@@ -201,7 +201,8 @@ fn is_seen(told: &Told, held: &Held) -> bool {
         && told.who.len() == told.journal.len()
 }
 
-// How many events a run has; none unless its gate saw what it should.
+// How many events a run has; none unless its gate kept a worker waiting and the result is as it
+// should be.
 fn seen<G: Gate + Sync, R: Threads + Wait + Sync + Send + Copy>(
     rt: R,
     alloc: Global,

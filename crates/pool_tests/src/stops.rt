@@ -109,7 +109,7 @@ fn is_programmes_own<T: TakeEnd<AnswerNote> + Drop>(
     Ok(is_log && messages == answers_of(alloc, journal, programme, false)?)
 }
 
-// Whether a replay of the journal finds a closed exchange if the run closed, and only the fault `NotClosed` otherwise.
+// Whether a replay of the journal finds a closed exchange if the run closed, and else the fault `NotClosed`.
 fn is_found(
     alloc: Global,
     inst: &Instance,
@@ -184,7 +184,8 @@ fn is_its_journal<M: Mailboxes>(
     )
 }
 
-// Whether a run by two workers that is stopped from the call of `pass` with this number on ends well.
+// Whether a run by two workers ends as it should whose gate stops it at the call of `pass` with this
+// number and at each later call.
 fn stops_well<R: Threads + Wait + Sync + Send + Copy>(
     rt: R,
     alloc: Global,

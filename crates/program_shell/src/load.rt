@@ -30,7 +30,7 @@ pub fn is_input(path: &str) -> bool
     path == "-"
 }
 
-// Why the file with this path was not read.
+// The reason why the file with this path was not read.
 fn not_read<'a>(path: &'a str, error: io::Error) -> Unread<'a> {
     match error.kind() {
         io::ErrorKind::OutOfMemory => Unread::Memory(path),

@@ -64,7 +64,8 @@ pub(super) fn serves<H: Threads + Wait + RandomSource + Sync + Send + Copy>(
     Ok(answer == wanted && output.as_slice() == text.as_bytes() && exit_status(&answer) == exit)
 }
 
-// Whether an answer is the expected one, but with the number of the record at fault one higher.
+// Whether an answer is the expected answer, except that the number of the record at fault is one
+// higher.
 fn is_further(
     alloc: Global,
     answer: &Result<Status, ServeFault>,

@@ -82,8 +82,8 @@ fn tells_of_broken_readers(rt: HostRuntime) -> Result<(), Fail> {
     Ok(())
 }
 
-// Whether a command reports that the writer fails after `good` calls, and the writer got the beginning of the
-// text.
+// Whether a command reports that the writer fails after `good_calls` calls, and the writer got the beginning
+// of the text.
 fn tells_of_cut_output<H: Threads + Wait + RandomSource + Sync + Send + Copy>(
     rt: H,
     alloc: Global,

@@ -42,7 +42,7 @@ enum Told {
     Pair(ResidentNo, ProgrammeNo),
 }
 
-// Adds one line for each of these programmes. Reason `i` is the one in the line about programme `i`.
+// Adds one line for each of these programmes. Reason `i` goes into the line about programme `i`.
 fn push_each(
     alloc: Global,
     text: &mut String,
@@ -90,7 +90,7 @@ fn push_lines(
     push_each(alloc, text, manner, resident, list, reasons)
 }
 
-// Adds one row for each of these programmes. Reason `i` is the one in the row about programme `i`.
+// Adds one row for each of these programmes. Reason `i` goes into the row about programme `i`.
 fn push_rows<W: Write>(
     rows: &mut RowWriter<'_, W>,
     manner: &Manner,
@@ -236,7 +236,7 @@ fn line_of(
     Ok(text.into_bytes())
 }
 
-// The text that answers the question, once its names are numbers.
+// The text that answers the question, whose names were replaced by the members' numbers.
 fn told_text(alloc: Global, case: &Case, manner: &Manner, told: Told) -> Result<Vec<u8>, AllocError>
     requires { IsTold case.now.docket.instance told }
     ensures { IfOk result (λ text.
@@ -264,7 +264,7 @@ fn named(alloc: Global, names: &Names, side: Side, name: &str) -> Result<u32, Wh
     }
 }
 
-// Whom the question is about, by the members' numbers; or the fault of a name in it.
+// Whom the question is about, by the members' numbers; or the fault of one of its names.
 fn told_of(alloc: Global, names: &Names, asked: Asked) -> Result<Told, WhyFault>
     ensures member { IfOk result (IsTold names.now.docket.now.instance) }
     ensures asks { IfOk result (Asks (naming_of names.now) asked.entry) }
@@ -284,7 +284,7 @@ fn told_of(alloc: Global, names: &Names, asked: Asked) -> Result<Told, WhyFault>
     }
 }
 
-// The real names that the key has for members. Without a key there are none.
+// The names that the key has for members. Without a key there are none.
 fn key_of(
     alloc: Global,
     keys: RandomState,

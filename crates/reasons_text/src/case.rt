@@ -23,8 +23,8 @@ use std::io::Read;
 use std::marker::Model;
 use std::random::RandomSource;
 
-/// A docket with a sheet, and the members' lists as they were written. For the first programmes, up to some number,
-/// the case also has how their places are taken.
+/// A docket with a sheet, and the members' lists as they were written. `takens` says for some first programmes, or
+/// for all, how their places are taken.
 pub struct Case {
     docket: Docket,
     lists: WrittenLists,
@@ -54,7 +54,7 @@ impl Drop for Case {
     }
 }
 
-// How a programme's places are taken: looked up, if it was counted before, else counted now.
+// How a programme's places are taken: looked up if this was counted before, else counted now.
 fn taken_of(listed: &Listed, sheet: &Assignment, takens: &[Taken], programme: ProgrammeNo) -> Taken
     requires { AreTaken listed.now.written sheet.now takens.now }
     ensures { IsTaken
@@ -135,7 +135,7 @@ fn answers_from(
     })
 }
 
-// A fault of the files, with its file. Running out of memory belongs to no file.
+// A fault of the files, with its file. Out of memory is no fault of a file.
 fn in_its_file(there: FileFault) -> WhyFault
     ensures { result ≡ spec.in_its_file there }
 {
@@ -150,9 +150,8 @@ fn in_its_file(there: FileFault) -> WhyFault
 
 impl Case {
     /// Reads a docket that has a sheet, with its lists, within these limits. If all residents will get answers, the
-    /// call also counts how each programme's places are taken.
-    // This function isn't inlined: its frame has the reader's buffers, which would stand on the stack of all that
-    // comes after.
+    /// call also counts how each programme's places are taken. This function isn't inlined, since the reader's
+    /// buffers in its frame would stay on the stack while the rest of the program runs.
     #[inline(never)]
     pub fn read_within<R: Read + Drop, H: RandomSource>(
         rt: &H,

@@ -23,7 +23,7 @@ use std::hash::RandomState;
 use std::io::Write;
 use std::random::RandomSource;
 
-/// The text of a receipt as it was printed; nothing of a file that is longer than any receipt.
+/// The text of a receipt as it was printed; an empty text if the file is longer than any receipt.
 pub(crate) fn short_text(alloc: Global, file: &[u8]) -> Result<Vec<u8>, AllocError>
     ensures { IfOk result (λ text. text.items ≡ pair.short_text file.now) }
 {
@@ -33,7 +33,7 @@ pub(crate) fn short_text(alloc: Global, file: &[u8]) -> Result<Vec<u8>, AllocErr
     plain_text(alloc, file)
 }
 
-// What is wrong with the number of members that a receipt tells.
+// The fault of a receipt whose number of members isn't the published number.
 fn members_fault(lists: &Published, outcome: &Published, shown: &Shown) -> Option<Fault>
     ensures { result
         ≡ pair.members_fault lists.now.members outcome.now.members (content shown.now) }
@@ -47,7 +47,7 @@ fn members_fault(lists: &Published, outcome: &Published, shown: &Shown) -> Optio
     None
 }
 
-/// The receipt in the rows of a file's text, or what is wrong with it.
+/// The receipt in the rows of a file's text, or its first fault.
 #[tactic(auto, unfolding(crate::specs::Pair::compared_fault))]
 pub(crate) fn compared<'r, 'a>(
     alloc: Global,
@@ -80,7 +80,7 @@ pub(crate) fn compared<'r, 'a>(
     }
 }
 
-// What is wrong with a receipt whose member has to be of this side.
+// The fault of a receipt whose member is of side `kind` and has to be of side `wanted`.
 fn kind_fault(wanted: Kind, kind: Kind) -> Option<Fault>
     ensures { result ≡ pair.kind_fault wanted kind }
 {
@@ -91,7 +91,8 @@ fn kind_fault(wanted: Kind, kind: Kind) -> Option<Fault>
     }
 }
 
-// The receipt of a member of this side in the rows of a file's text, or what is wrong with it.
+// The receipt in the rows of a file's text, whose member has to be of this side, or its first
+// fault.
 fn wanted<'r, 'a>(
     alloc: Global,
     keys: RandomState,
@@ -120,7 +121,8 @@ fn wanted<'r, 'a>(
     }
 }
 
-// The sentence on two receipts, and whether they agree; or what is wrong with one of them, and with which.
+// The sentence on two receipts, and whether they agree; or the first fault of one of them, with this
+// receipt's number.
 fn pair_of(
     alloc: Global,
     keys: RandomState,

@@ -21,7 +21,7 @@ use crate::side::Side;
 use std::alloc::{AllocError, Global};
 use std::hash::RandomState;
 
-/// The receipts of a folder, and what is kept to look things up in them.
+/// The receipts of a folder, and what is kept for looking things up in them.
 #[derive(Drop)]
 pub(crate) struct Held<'r, 'a> {
     sides: Vec<Side<'r, 'a>>,
@@ -136,7 +136,8 @@ impl<'r, 'a> Held<'r, 'a> {
         Ok(())
     }
 
-    // Adds the pairs of a resident's receipt with those of the programmes on its list.
+    // Adds the pairs of a resident's receipt with the receipts of the programmes on the resident's
+    // list.
     fn push_choices(&self, pairs: &mut Vec<(usize, usize)>, r: usize) -> Result<(), AllocError>
         requires held { IsHeld self.now }
         requires within { r < length self.now.sides.items }
@@ -164,8 +165,8 @@ impl<'r, 'a> Held<'r, 'a> {
         }
     }
 
-    // Adds the pair of a resident's receipt with that of the programme with this name, unless the
-    // resident lists this programme.
+    // Adds the pair of a resident's and a programme's receipt, unless the resident lists the
+    // programme with this name.
     fn push_unlisted(
         &self,
         pairs: &mut Vec<(usize, usize)>,
@@ -184,7 +185,7 @@ impl<'r, 'a> Held<'r, 'a> {
         Ok(())
     }
 
-    // Adds the pairs of a programme's receipt with those of its residents who don't list it.
+    // Adds the pairs of a programme's receipt with the receipts of its residents who don't list it.
     fn push_members(&self, pairs: &mut Vec<(usize, usize)>, p: usize) -> Result<(), AllocError>
         requires held { IsHeld self.now }
         requires within { p < length self.now.sides.items }
@@ -301,7 +302,7 @@ impl<'r, 'a> Held<'r, 'a> {
         self.is_whole(members) && differing.len() == 0
     }
 
-    /// Adds what is said of the folder's receipts, where `members` is the number of all members. Returns
+    /// Adds the text about the folder's receipts, where `members` is the number of all members. Returns
     /// whether the placement is stable.
     pub(crate) fn put_said(
         &self,
@@ -343,8 +344,8 @@ fn put_two(
     put(text, end)
 }
 
-// Adds how many of all members have a receipt there, how many pairs were compared, and how many of them
-// differ.
+// Adds how many of all members have a receipt in the folder, how many pairs were compared, and how many
+// pairs differ.
 fn put_counts(
     text: &mut Vec<u8>,
     there: usize,

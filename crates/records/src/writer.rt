@@ -6,7 +6,7 @@ ghost use Rattle.records.specs.RowText.{Adds, IsOver, Writes, row_setup, row, ro
 use std::alloc::{AllocError, Global};
 use std::io::Write;
 
-// The greatest number of bytes that wait in the buffer.
+// The greatest number of bytes in the buffer.
 const ROOM: usize = 16_384;
 
 /// The writer failed.
@@ -54,7 +54,7 @@ fn is_blank(fields: &[&[u8]]) -> bool
 }
 
 impl<'a, W: Write> RowWriter<'a, W> {
-    /// A row writer over this writer and this buffer, which is emptied.
+    /// A row writer over this writer and this buffer. The buffer is emptied first.
     pub fn new(writer: &'a mut W, room: &'a mut Vec<u8>) -> RowWriter<'a, W>
         ensures { IsOver result writer.entry room.old.items }
     {
@@ -64,8 +64,8 @@ impl<'a, W: Write> RowWriter<'a, W> {
         }
     }
 
-    // Sends the buffer's bytes to the writer, and then these bytes, too, if even the empty buffer is too small for
-    // them. This is a function of its own, so that only the test for room in `put` is inlined.
+    // Sends the buffer's bytes to the writer. These bytes then go into the buffer, or to the writer if they are
+    // longer than the buffer. This is a function of its own, so that only `put`'s test for room is inlined.
     #[cold]
     #[inline(never)]
     fn put_past(&mut self, bytes: &[u8]) -> Result<(), WriteFailed>
@@ -87,7 +87,8 @@ impl<'a, W: Write> RowWriter<'a, W> {
         Ok(())
     }
 
-    // Adds these bytes to the buffer, whose bytes go to the writer first if there is no room.
+    // Adds these bytes to the buffer. If there is no room, the buffer's bytes go to the writer
+    // first.
     #[inline]
     fn put(&mut self, bytes: &[u8]) -> Result<(), WriteFailed>
         ensures { OnOk result (Adds W.contents self.old self.new bytes.now) }

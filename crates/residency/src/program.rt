@@ -18,8 +18,8 @@ use std::random::RandomSource;
 use std::sync::Wait;
 use std::thread::Threads;
 
-// Writes why there is no answer, or only a part of one. The text names these limits. No exit status depends on
-// whether this text could be written.
+// Writes why there is no complete answer. The text names these limits. No exit status depends on whether this
+// text could be written.
 fn tell<T: Eprint>(told: &T, limits: Limits, fault: &LimitsFault) {
     let _ = match fault {
         LimitsFault::Reading(fault) => eprintln!(told; "residency: {}", fault.within(limits)),
@@ -27,7 +27,7 @@ fn tell<T: Eprint>(told: &T, limits: Limits, fault: &LimitsFault) {
     };
 }
 
-// Does what the command line asks within these limits, or writes why there is no answer.
+// Does what the command line asks within these limits, or writes why there is no complete answer.
 fn serve_and_tell<R, W, T, H>(
     rt: H,
     alloc: Global,

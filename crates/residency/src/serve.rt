@@ -161,7 +161,7 @@ fn write_answer<W: Write>(
 }
 
 /// Reads a docket within the standard limits, runs its exchange to the close by threads, and writes its sheet. If the
-/// options ask for the journal, the journal of this very run follows. The gate never stops a run.
+/// options ask for the journal, the journal of this run follows. The gate never stops a run.
 ///
 /// A sheet or a journal in the docket is read and must be well formed, but is not used. No byte is written before the
 /// exchange has closed.
@@ -265,7 +265,7 @@ where
     }
 }
 
-// What is done with the memory that an order took.
+// What happens to the memory that an order took.
 fn spent_by(order: &Order) -> Spent {
     match order {
         Order::Match(_) => Spent::LeftToTheSystem,
@@ -273,9 +273,9 @@ fn spent_by(order: &Order) -> Spent {
     }
 }
 
-/// Does what a command line asks, within these limits, for a program that ends right afterwards. A match leaves its memory
-/// to the operating system instead of freeing it piece by piece, since that is faster. The gate never stops a run.
-// Its frame holds the reader's buffers: inlined they would stand on the stack of all that comes after.
+/// Does what a command line asks, within these limits, for a program that ends right afterwards. A match leaves its
+/// memory to the operating system instead of freeing it piece by piece, since that is faster. The gate never stops a
+/// run. The reader's buffers in its frame would stay on the stack if the function were inlined.
 #[inline(never)]
 pub fn serve_within<R, W, G, H>(
     rt: H,

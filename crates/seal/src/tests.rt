@@ -7,8 +7,8 @@ use std::alloc::Global;
 use std::process::Abort;
 use std::test::Fail;
 
-// The leaves of Certificate Transparency's test vectors. With each leaf stands the root of the tree of all leaves
-// before this one.
+// The leaves of Certificate Transparency's test vectors. Beside each leaf stands the root of the tree of all
+// earlier leaves.
 const PUBLISHED: [(&[u8], &str); 9] = [
     (
         b"",
@@ -48,7 +48,7 @@ const PUBLISHED: [(&[u8], &str); 9] = [
     ),
 ];
 
-// The root of the leaves "0", "1" and so on up to "999", by the recursion of RFC 9162.
+// The root of the leaves "0" to "999", by the recursion of RFC 9162.
 const OF_A_THOUSAND: &str = "638afa98022925bacfddadb15ef22fd0199c1ac99c2973b6158243d13fce05c2";
 
 // The sealed texts of the members of examples/nrmp.csv: before the match, and after the match with

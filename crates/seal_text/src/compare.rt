@@ -17,7 +17,7 @@ use std::process::ExitCode;
 use std::random::RandomSource;
 use std::rt::Files;
 
-// Writes that the value of an option isn't the row of a root, and gives the exit status.
+// Writes that the value of an option isn't the row of a root, and returns the exit status.
 fn refuse_row<T: Eprint>(told: &T, word: &str) -> ExitCode
     ensures { exit_status_in result ≡ 2 }
 {
@@ -43,7 +43,7 @@ fn path_at(alloc: Global, paths: &[String], fault: &CompareFault) -> Option<Stri
     }
 }
 
-// Writes that a file of a directory was not read, and gives the exit status.
+// Writes that a file of a directory was not read, and returns the exit status.
 fn refuse_one<T: Eprint>(alloc: Global, unread: &Unread, told: &T) -> ExitCode
     ensures { exit_status_in result ≡ 1 }
 {
@@ -126,7 +126,7 @@ fn compare_all<W: Write, T: Eprint, H: RandomSource + Files + AllocGlobal>(
     ExitCode::from(compare_status(&answer))
 }
 
-/// Compares two receipts under the roots in these rows, and gives the exit status.
+/// Compares two receipts under the roots in these rows, and returns the exit status.
 pub(crate) fn compare_pair<W: Write, T: Eprint, H: RandomSource + Files + AllocGlobal>(
     rt: &H,
     alloc: Global,
@@ -147,7 +147,7 @@ pub(crate) fn compare_pair<W: Write, T: Eprint, H: RandomSource + Files + AllocG
     compare_two(rt, alloc, &lists, &outcome, two, writer, told)
 }
 
-/// Compares the receipts of a directory under the roots in these rows, and gives the exit status.
+/// Compares the receipts of a directory under the roots in these rows, and returns the exit status.
 pub(crate) fn compare_pairs<W: Write, T: Eprint, H: RandomSource + Files + AllocGlobal>(
     rt: &H,
     alloc: Global,

@@ -47,7 +47,7 @@ fn tell<T: Eprint>(told: &T, files: &Sources, fault: &SealFault) {
     };
 }
 
-// Reads the files, and writes what is wanted: the roots, or the receipts.
+// Reads the files, and writes the roots or the receipts, as wanted.
 fn seal_files<R, W, T, H>(
     rt: &H,
     alloc: Global,
@@ -91,7 +91,7 @@ where
     ExitCode::from(seal_status(&answer))
 }
 
-// Writes that the value of an option isn't a root, and gives the exit status.
+// Writes that the value of an option isn't a root, and returns the exit status.
 fn refuse_root<T: Eprint>(told: &T, word: &str) -> ExitCode
     ensures { exit_status_in result ≡ 2 }
 {
@@ -162,9 +162,9 @@ fn check_roots<R: Read, W: Write, T: Eprint, H: RandomSource>(
     check_input(rt, alloc, &lists, outcome.as_ref(), reader, writer, told)
 }
 
-/// Seals a docket, checks a receipt or compares receipts, as the words order, and gives the exit status. It is 0 if
-/// all was written, and 4 for a receipt that is wrong and for receipts that differ. It is 1 if memory, reading or
-/// writing failed, 2 for a wrong command line, and 3 for a file at fault.
+/// Seals a docket, checks a receipt or compares receipts, as the words order, and returns the exit status. The
+/// status is 0 if all was written, and 4 for a receipt that is wrong and for receipts that differ. It is 1 if
+/// memory, reading or writing failed, 2 for a wrong command line, and 3 for a file at fault.
 ///
 /// The words are those after the program's own name. Help and the version go to standard output. The reason why
 /// nothing was written goes to standard error.

@@ -28,7 +28,7 @@ use std::alloc::{AllocError, Global};
 use std::io::Write;
 use std::random::RandomSource;
 
-/// What to write about a docket.
+/// What the program writes when it seals a docket.
 #[derive(Clone, Copy, Debug, PartialEq, Eq)]
 pub enum Wanted {
     /// The rows of the trees' roots.
@@ -57,7 +57,7 @@ fn grown_if(
     }
 }
 
-// Adds the roots or the receipts, as wanted, from the trees of a docket.
+// Adds the roots of a docket's trees, or the receipts, as wanted.
 fn put_wanted(
     alloc: Global,
     text: &mut Vec<u8>,
@@ -77,7 +77,7 @@ fn put_wanted(
     }
 }
 
-// The roots or the receipts, as wanted, from the texts of the leaves.
+// The roots or the receipts, as wanted, of trees whose leaves have these texts.
 fn text_of(
     alloc: Global,
     wanted: Wanted,
@@ -186,7 +186,8 @@ fn early_text<H: RandomSource>(
     }
 }
 
-// Whether what is wanted can be told of the case: roots always, and receipts only if the sheet is stable.
+// Whether the wanted text may be written for this case: roots always, and receipts only if the sheet is
+// stable.
 fn is_told(alloc: Global, wanted: Wanted, case: &Case) -> Result<bool, AllocError>
     ensures { IfOk result (IsTold wanted case.now) }
 {
@@ -313,8 +314,8 @@ pub(crate) fn serve<W: Write, H: RandomSource>(
 }
 
 /// Writes the root of a docket's lists, and if there is a sheet, also that of the result. If there is a key, the list
-/// leaf of each member that it names ends with the real name. Each file is read apart from the others. The secret is
-/// 64 hexadecimal digits. If the fault is not the writer's, nothing was written.
+/// leaf of each member that it names ends with the real name. Each file is read by itself. The secret is 64
+/// hexadecimal digits. If the fault is not the writer's, nothing was written.
 pub fn serve_seal<W: Write, H: RandomSource>(
     rt: &H,
     alloc: Global,
@@ -337,9 +338,9 @@ pub fn serve_seal<W: Write, H: RandomSource>(
     serve(rt, alloc, Wanted::Roots, docket, sheet, key, secret, writer)
 }
 
-/// Writes the receipt of each member, after a row that names the member. If there is a sheet, a receipt has the
-/// result, too, and if there is a key, the real name of each member that it names. Each file is read apart from the
-/// others. A sheet that isn't stable is a fault. If the fault is not the writer's, nothing was written.
+/// Writes the receipt of each member, after a row that names the member. If there is a sheet, a receipt also has
+/// the result. If there is a key, a receipt has the member's real name, if the key names the member. Each file is
+/// read by itself. A sheet that isn't stable is a fault. If the fault is not the writer's, nothing was written.
 pub fn serve_receipts<W: Write, H: RandomSource>(
     rt: &H,
     alloc: Global,

@@ -1,4 +1,4 @@
-//! The texts of leaves: what is sealed of each member before the match, and after it.
+//! The texts of leaves: the texts that are sealed for each member before the match and after it.
 ghost use Rattle.std.specs.Prelude.{◌≡◌, ◌<◌, ◌++◌, ◌∷◌, [], ℕ, List, IfOk, IfSome, None, OnOk, Some, codes, length, map, nat_lt, option_copied, option_map, slice_index_or, true};
 ghost use Rattle.std.specs.List.{list_all, range_with_len};
 ghost use Rattle.docket.specs.Texts.{filled_row, mark_row, programme_name, programme_row, resident_name};
@@ -333,8 +333,8 @@ fn put_member(
     )
 }
 
-// The texts of the programmes' result leaves: each one's `F` row, and the `M` rows of its residents in the docket's order.
-// One walk over the residents adds each one's row to the text of the resident's programme.
+// The texts of the programmes' result leaves. Each has the programme's `F` row, and the `M` rows of its residents in
+// the docket's order. One walk over the residents adds each `M` row to the text of its programme.
 fn programme_results(alloc: Global, case: &Case) -> Result<Vec<Vec<u8>>, AllocError>
     requires { HasSheet case.now }
     ensures { IfOk result (λ texts. texts_of texts.items

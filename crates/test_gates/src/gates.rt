@@ -14,7 +14,7 @@ pub use stopping::{StopsAtOnce, StopsBy, StopsFrom};
 /// How often a gate tests whether another worker has entered an event.
 const TURNS: u32 = 10_000_000;
 
-/// How often a gate tests whether other workers have entered events that may already be done.
+/// How many turns a gate gives the other workers to finish what they have begun.
 const LINGER: u32 = 100;
 
 /// For each of at most eight workers, how many events the worker has entered, as the gate counts them.

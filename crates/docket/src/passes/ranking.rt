@@ -321,7 +321,7 @@ fn finished(
     }
 }
 
-// Where the programmes' lists will be kept: a place for each programme if lists are kept, else none.
+// The place for the programmes' lists, with no list yet; no place if lists are not kept.
 fn no_lists(
     alloc: Global,
     programmes: &Members,

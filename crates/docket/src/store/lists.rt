@@ -46,12 +46,12 @@ pub(crate) struct ListRow<'a> {
 /// The rank lists and withdrawals in order. Each name is kept as the number of its text.
 ///
 /// If these rows bring more new names than there can be members, one of the names is nobody's, and the second pass ends
-/// there. From this name on nothing more is kept.
+/// at that name's row. So from then on nothing more is kept.
 #[derive(Drop)]
 pub(crate) struct Lists {
     rows: Vec<KeptRow>,
     names: Vec<u32>,
-    // How many names were new when one of these rows brought them.
+    // How many new texts these rows brought.
     brought: usize,
 }
 
@@ -67,8 +67,8 @@ impl Model for Lists {
     ghost invariant = { λ a. ArePartsOf a.names.items a.rows.items };
 }
 
-// The count of new names, after the number of texts grew from `before` to `after`. Once there are too many new names,
-// the count stays.
+// The count of new names, after the number of texts grew from `texts_before` to `texts_after`. Once there are too
+// many new names, the count stays the same.
 #[inline(always)]
 fn counted(brought: usize, before: usize, after: usize) -> usize
     requires within { before ≤ after }
@@ -117,8 +117,8 @@ fn push_number(numbers: &mut Vec<u32>, number: usize) -> Result<(), AllocError>
     Ok(())
 }
 
-// Tests a text and keeps its number. If there are too many new names, the text is only tested. The answer is whether the
-// text is a name.
+// Tests a text and keeps its number. If there are too many new names, the text is only tested. Returns whether the text
+// is a name.
 #[inline(always)]
 fn add_name(
     numbers: &mut Vec<u32>,
@@ -143,8 +143,8 @@ fn add_name(
     Ok(true)
 }
 
-// Tests the names that a rank list has after its owner's, and keeps their numbers. Once there are too many new names, the
-// other names are only tested. The answer is whether all are names.
+// Tests the names that a rank list has after the name of its owner, and keeps their numbers. Once there are too many
+// new names, the remaining names are only tested. Returns whether all of them are names.
 fn add_names(
     numbers: &mut Vec<u32>,
     brought: &mut usize,

@@ -16,7 +16,7 @@ enum Mail {
     Hears,
 }
 
-/// What an item of one of these six lists says: the other member, and the kind of an answer.
+/// An item of one of these six lists: the other member, and the kind if it is an answer.
 type Letter = (u32, Option<AnswerKind>);
 
 /// This item if the two numbers are equal, or none.
@@ -107,8 +107,8 @@ fn place(ranking: &[ProgrammeNo], p: u32) -> usize {
     found.unwrap_or(ranking.len())
 }
 
-/// Where the best programme whose offer the resident took stands on the ranking. If the resident took no offer, the
-/// result is the ranking's length.
+/// The place on the ranking of the best programme whose offer the resident took, or the ranking's length if the
+/// resident took no offer.
 fn best_place(ranking: &[ProgrammeNo], r: ResidentNo, j: &[Event]) -> usize {
     let mut best = ranking.len();
     for event in j {
@@ -212,7 +212,7 @@ pub(super) fn refusal(
     }
 }
 
-/// Whether the core's answer is that of the slow definitions.
+/// Whether the core and the slow definitions give the same answer.
 pub(super) fn is_same(told: Result<(), Refused>, slow: Option<Refused>) -> bool {
     match slow {
         Some(why) => told == Err(why),
@@ -250,7 +250,7 @@ fn offer(
     None
 }
 
-/// Why the wanted item isn't the one in front, or none if it is.
+/// Why an event's item isn't the item in front, or none if it is.
 fn front_fault(front: Option<Letter>, wanted: Letter) -> Option<Refused> {
     match front {
         None => Some(Refused::NothingWaiting),

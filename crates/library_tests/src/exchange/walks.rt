@@ -11,7 +11,7 @@ const PROGRAMMES: u32 = 3;
 
 const RESIDENTS: u32 = 5;
 
-/// Random numbers, each of which is made from the one before by shifts and exclusive ors.
+/// Random numbers, each made from the number before it by shifts and exclusive ors.
 #[derive(Drop)]
 struct Numbers {
     last: u32,
@@ -30,7 +30,7 @@ impl Numbers {
     }
 }
 
-/// Most of the numbers below a prime, in a random order.
+/// Most of the numbers below a prime, in random order.
 fn some_below(numbers: &mut Numbers, alloc: Global, prime: u32) -> Result<Vec<u32>, AllocError>
     requires { 1 < prime }
 {
@@ -82,7 +82,7 @@ fn random_instance(numbers: &mut Numbers, alloc: Global) -> Result<Instance, Mod
     builder.finish().map_err(|refused| refused.fault)
 }
 
-/// A random event. Seldom one of its two members doesn't exist.
+/// A random event. Now and then one of its two members doesn't exist.
 fn random_event(numbers: &mut Numbers) -> Event {
     let programme = ProgrammeNo(numbers.below(PROGRAMMES + 1).min(numbers.below(30)));
     let resident = ResidentNo(numbers.below(RESIDENTS));

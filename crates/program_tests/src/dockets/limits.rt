@@ -30,7 +30,7 @@ fn ranked(alloc: Global, last: &str) -> Result<String, AllocError> {
     Ok(text)
 }
 
-// The row of a capacity followed by closes: this many records in all.
+// A docket of this many records: the row of a capacity, and then closes.
 fn closes(alloc: Global, records: u32) -> Result<String, AllocError> {
     let mut text = String::new(alloc);
     text.push_str("C,full\n")?;

@@ -1,4 +1,5 @@
-//! Dockets with a fault, or with a part missing. Each command reports this, and writes nothing.
+//! Dockets with a fault, or with a part missing. Each command reports the fault or the missing
+//! part, and writes nothing.
 use crate::commands::{MATCH, serves, serves_both};
 use crate::texts::{CLOSE, FULL, SMALL, SMALL_SHEET, THREE, VERSION_2};
 use docket::DocketFault;
