@@ -100,20 +100,20 @@ pub(crate) fn of_docket(fault: RecordsFault) -> DocketFault
 
 /// The fault with its record counted in its own file, which comes after `records_before` records of other
 /// files.
-pub(crate) fn there_is(before: u32, fault: RecordsFault) -> RecordsFault
-    ensures { result ≡ spec.there_is before fault }
+pub(crate) fn there_is(records_before: u32, fault: RecordsFault) -> RecordsFault
+    ensures { result ≡ spec.there_is records_before fault }
 {
     match fault {
         RecordsFault::Docket(fault) => {
-            let again = fault;
-            let place = number_of(fault).saturating_sub(before);
-            RecordsFault::Docket(at_place(place, again))
+            let same_fault = fault;
+            let place = number_of(fault).saturating_sub(records_before);
+            RecordsFault::Docket(at_place(place, same_fault))
         }
         RecordsFault::TooManyListed { place } => RecordsFault::TooManyListed {
-            place: place.saturating_sub(before),
+            place: place.saturating_sub(records_before),
         },
         RecordsFault::AnotherPart { place } => RecordsFault::AnotherPart {
-            place: place.saturating_sub(before),
+            place: place.saturating_sub(records_before),
         },
     }
 }

@@ -224,9 +224,9 @@ impl Core {
         ensures none { IfNone result (fault_left inst.now self.now event ≢ None) }
         ensures instance { IsInstance inst.now }
     {
-        let again = event;
+        let same_event = event;
         match self.fault(inst, event) {
-            None => Some(again),
+            None => Some(same_event),
             Some(_) => None,
         }
     }

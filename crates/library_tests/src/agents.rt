@@ -125,7 +125,7 @@ fn programme_hears<T: TakeEnd<AnswerNote> + Drop>(
     end: T,
     answers: &[AnswerNote],
     last: Heard<AnswerNote>,
-    after: &[Option<ResidentNo>],
+    later_offers: &[Option<ResidentNo>],
 ) -> bool
     requires { T.taken end ≡ [] }
 {
@@ -137,7 +137,7 @@ fn programme_hears<T: TakeEnd<AnswerNote> + Drop>(
     };
     offers_so(&mut run, &[Some(X), Some(Y), None])
         && hears_so(&mut run, answers, last)
-        && offers_so(&mut run, after)
+        && offers_so(&mut run, later_offers)
 }
 
 #[test]

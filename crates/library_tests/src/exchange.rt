@@ -167,8 +167,8 @@ const SEEN: [Seen; 19] = [
 
 // Whether the core answers as expected to the other event, shows what it should of A and X, and is closed exactly if
 // it should be.
-fn shows(run: &Run, other: &(Event, Option<Refused>), seen: &Seen, is_closed: bool) -> bool {
-    run.may(other.0).err() == other.1
+fn shows(run: &Run, other_event: &(Event, Option<Refused>), seen: &Seen, is_closed: bool) -> bool {
+    run.may(other_event.0).err() == other_event.1
         && run.seen(A, X) == *seen
         && run.core.is_closed() == is_closed
 }
@@ -190,8 +190,8 @@ fn shows_what_is_left(rt: HostRuntime) {
     let mut is_right = false;
     if let Ok(mut run) = begin(rt.alloc(), TWO_PLACES, Capacity::Full) {
         assert!(rt; first_wrong(&mut run) == None);
-        let given = run.given(rt.alloc());
-        is_right = given.is_ok_and(|given| has_places(&given, &[Some(1), Some(0), Some(0)]));
+        let places = run.assignment(rt.alloc());
+        is_right = places.is_ok_and(|places| has_places(&places, &[Some(1), Some(0), Some(0)]));
     }
     assert!(rt; is_right);
 }
@@ -244,9 +244,9 @@ fn events(alloc: Global, inst: &Instance) -> Result<Vec<Event>, AllocError> {
 // Whether the core and the slow definitions agree about this event: that it may follow the earlier events, or for
 // which cause it may not.
 fn agrees_on_one(run: &Run, cap: Capacity, earlier: &[Event], event: Event) -> bool {
-    let again = event;
+    let same_event = event;
     let slow = slow::refusal(&run.inst, cap, earlier, event);
-    slow::is_same(run.may(again), slow)
+    slow::is_same(run.may(same_event), slow)
 }
 
 // Whether the core and the slow definitions agree about each of these events after the earlier events.

@@ -150,9 +150,17 @@ fn enters_nothing<J: ExchangeIdentity, P: PutEnd<OfferNote>, Q: PutEnd<AnswerNot
 }
 
 // Whether the first of two tallies has all parts of the count except one, and the other has this one part.
-fn are_cut<J: ExchangeIdentity>(first: &Tally<J>, other: &Tally<J>) -> bool {
-    (first.worker(), first.parts(), first.entered()) == (0, PARTS - 1, 0)
-        && (other.worker(), other.parts(), other.entered()) == (1, 1, 0)
+fn are_cut<J: ExchangeIdentity>(first_tally: &Tally<J>, other_tally: &Tally<J>) -> bool {
+    (
+        first_tally.worker(),
+        first_tally.parts(),
+        first_tally.entered(),
+    ) == (0, PARTS - 1, 0)
+        && (
+            other_tally.worker(),
+            other_tally.parts(),
+            other_tally.entered(),
+        ) == (1, 1, 0)
 }
 
 // Whether the tallies of two workers each count this worker's entries, together count all entries, and the ledger
@@ -161,19 +169,19 @@ fn counts_apart<J: ExchangeIdentity, P: PutEnd<OfferNote>, Q: PutEnd<AnswerNote>
     ledger: &mut Ledger<J, P, Q>,
     inst: &Instance,
     tally: &mut Tally<J>,
-    other: Tally<J>,
+    other_tally: Tally<J>,
 ) -> bool
     requires { inst.now ≡ J.inst }
 {
-    let mut other = other;
+    let mut other_tally = other_tally;
     let all = nine_events();
-    let (first, rest) = all.split_at(5);
-    let are_right = are_cut(tally, &other)
-        && answers_each(ledger, inst, tally, first, Ok(()))
-        && answers_each(ledger, inst, &mut other, rest, Ok(()))
+    let (first_events, later_events) = all.split_at(5);
+    let are_right = are_cut(tally, &other_tally)
+        && answers_each(ledger, inst, tally, first_events, Ok(()))
+        && answers_each(ledger, inst, &mut other_tally, later_events, Ok(()))
         && tally.entered() == 5
-        && other.entered() == 4;
-    tally.join(other);
+        && other_tally.entered() == 4;
+    tally.join(other_tally);
     are_right
         && shows(ledger, tally, &all)
         && ledger.who() == [0, 0, 0, 0, 0, 1, 1, 1, 1].as_slice()

@@ -182,12 +182,12 @@ fn reads_the_list_of_whoever_is_withdrawn(rt: HostRuntime) -> Result<(), Fail> {
 // `withdraws_first` is set, else afterwards.
 fn without(
     alloc: Global,
-    first: bool,
+    withdraws_first: bool,
     programmes: &[ProgrammeNo],
     residents: &[ResidentNo],
 ) -> Result<Instance, ModelFault> {
     let mut builder = two_and_three(alloc)?;
-    if !first {
+    if !withdraws_first {
         add_lists(&mut builder)?;
     }
     for programme in programmes {
@@ -196,7 +196,7 @@ fn without(
     for resident in residents {
         builder.withdraw_resident(*resident)?;
     }
-    if first {
+    if withdraws_first {
         add_lists(&mut builder)?;
     }
     builder.finish().map_err(|refused| refused.fault)
@@ -217,7 +217,7 @@ fn is_left(instance: &Instance, pairs: u32, programmes: [bool; 2], residents: [b
     if instance.programmes() != 2 || instance.residents() != 3 {
         return false;
     }
-    let gone = [
+    let withdrawn_residents = [
         instance.resident_withdrawn(X),
         instance.resident_withdrawn(Y),
         instance.resident_withdrawn(Z),
@@ -227,17 +227,17 @@ fn is_left(instance: &Instance, pairs: u32, programmes: [bool; 2], residents: [b
             instance.programme_withdrawn(A),
             instance.programme_withdrawn(B),
         ] == programmes
-        && gone == residents
+        && withdrawn_residents == residents
 }
 
 #[test]
 fn a_withdrawn_member_stands_on_no_list(rt: HostRuntime) -> Result<(), Fail> {
-    for first in [false, true] {
-        let programme = without(rt.alloc(), first, &[B], &[])?;
+    for withdraws_first in [false, true] {
+        let programme = without(rt.alloc(), withdraws_first, &[B], &[])?;
         assert!(rt; is_left(&programme, 3, [false, true], [false; 3]));
         assert!(rt; is_programme(&programme, B, 1, &[]));
         assert!(rt; is_resident(&programme, X, &[A]));
-        let resident = without(rt.alloc(), first, &[], &[X])?;
+        let resident = without(rt.alloc(), withdraws_first, &[], &[X])?;
         assert!(rt; is_left(&resident, 2, [false; 2], [true, false, false]));
         assert!(rt; is_programme(&resident, A, 2, &[Y, Z]));
         assert!(rt; is_programme(&resident, B, 1, &[]));
@@ -334,7 +334,7 @@ fn national_faults_name_their_numbers(rt: HostRuntime) {
             "more than 2000000 acceptable pairs",
         ),
     ] {
-        let told = fault.within(Limits::National);
+        let limit_fault = fault.within(Limits::National);
         let printed = format!(in rt.alloc(); "{told}").expect(&rt, "a text");
         assert!(rt; printed.as_str() == text, "{printed}");
     }

@@ -129,11 +129,11 @@ impl<M: Copy, R: Wait + Copy> SlippingTake<M, R> {
     fn slipped(&mut self, slip: TakeSlip<M>) -> TakeReply<M>
         ensures { self.new ≡ self.old }
     {
-        let again = mem::replace(&mut self.has_slipped, true);
+        let has_slipped = mem::replace(&mut self.has_slipped, true);
         match slip {
             TakeSlip::AlwaysNothing => TakeReply::Nothing,
             TakeSlip::Gone => TakeReply::Gone,
-            _ if again => self.end.take(),
+            _ if has_slipped => self.end.take(),
             TakeSlip::Nothing => TakeReply::Nothing,
             TakeSlip::Gives(m) => TakeReply::Got(m),
             TakeSlip::Repeats => match self.given.last() {

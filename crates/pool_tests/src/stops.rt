@@ -191,9 +191,9 @@ fn stops_well<R: Threads + Wait + Sync + Send + Copy>(
     alloc: Global,
     inst: &Instance,
     cap: Capacity,
-    first: u64,
+    first_pass: u64,
 ) -> bool {
-    match run(rt, alloc, inst, cap, 2, &StopsFrom::new(first)) {
+    match run(rt, alloc, inst, cap, 2, &StopsFrom::new(first_pass)) {
         Ok(done) => is_its_journal(alloc, inst, cap, done) == Ok(true),
         Err(_) => false,
     }
@@ -203,10 +203,10 @@ fn stops_well<R: Threads + Wait + Sync + Send + Copy>(
 fn a_run_that_is_stopped_at_any_pass_is_its_journal(rt: HostRuntime) -> Result<(), Fail> {
     // a chain of thirty links has sixty acceptable pairs
     let inst = made_chain(rt.alloc(), 30)?;
-    for first in 1..=160 {
+    for first_pass in 1..=160 {
         for cap in [Capacity::Full, Capacity::Each(1)] {
             assert!(rt;
-                stops_well(rt, rt.alloc(), &inst, cap, first),
+                stops_well(rt, rt.alloc(), &inst, cap, first_pass),
                 "from {first} on, {cap:?}"
             );
         }

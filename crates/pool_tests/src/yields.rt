@@ -118,15 +118,15 @@ fn busy_in<R: Threads + Wait + Sync + Send + Copy>(
         clock: AtomicU64::new(0),
         passed: AtomicU64::new(chance),
     };
-    let Ok(told) = ran_on(rt, alloc, inst, cap, workers, &gate) else {
+    let Ok(outcome) = ran_on(rt, alloc, inst, cap, workers, &gate) else {
         return None;
     };
-    let checked = check(alloc, inst, cap, &told.journal, &told.assignment);
-    if told.ending != Ending::Closed || checked.is_err() {
+    let checked = check(alloc, inst, cap, &outcome.journal, &outcome.assignment);
+    if outcome.ending != Ending::Closed || checked.is_err() {
         return None;
     }
     let mut busy = 0_usize;
-    for entered in &told.entered {
+    for entered in &outcome.entered {
         busy = busy.saturating_add((*entered > 0) as usize);
     }
     Some(busy)

@@ -129,9 +129,9 @@ pub fn lent(bytes: &Option<Vec<u8>>) -> Option<&[u8]>
 }
 
 /// Prints that a file was not read, and returns the exit status.
-pub fn refuse_unread<T: Eprint>(told: &T, unread: &Unread) -> ExitCode
+pub fn refuse_unread<T: Eprint>(console: &T, unread: &Unread) -> ExitCode
     ensures { exit_status_in result ≡ 1 }
 {
-    let _ = eprintln!(told; "residency: {unread}");
+    let _ = eprintln!(console; "residency: {unread}");
     ExitCode::from(1)
 }

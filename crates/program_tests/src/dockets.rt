@@ -85,8 +85,8 @@ fn first_wrong_of_version_2<'a>(
         let Some((records, wanted)) = line.split_once(" = ") else {
             return Ok(Some(line));
         };
-        let again = joined(alloc, &["V,2 ", records])?;
-        if !tells_both(alloc, again.as_str(), further(alloc, wanted)?.as_str())? {
+        let version_2 = joined(alloc, &["V,2 ", records])?;
+        if !tells_both(alloc, version_2.as_str(), further(alloc, wanted)?.as_str())? {
             return Ok(Some(line));
         }
     }

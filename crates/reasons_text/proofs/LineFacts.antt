@@ -96,7 +96,7 @@ rows_more contents c names without_ranks n a b d t h new more = record {
 
 -- a text was added to an empty buffer over a writer, and then the buffer was written out
 pub handed_over : {W : Type 0} (contents : W → Option (List ℕ)) (start last : RowWriter W) (old new : W) (none text : List ℕ) → start.writer.now ≡ old →
-    start.waiting.now.items ≡ none → none ≡ [] → Adds contents start last text → Writes contents last.writer.now new last.waiting.now.items
+    start.buffer.now.items ≡ none → none ≡ [] → Adds contents start last text → Writes contents last.writer.now new last.buffer.now.items
     → Appends (contents old) (contents new) text
 handed_over contents start last old new none text over holds empty added handed =
     sent contents start last (record { ref_ptr = start.writer.ref_ptr; ghost_name = start.writer.ghost_name; now = old }) new none text (refl, over, holds) empty

@@ -222,7 +222,7 @@ fn line_of(
     ensures { IfOk result (λ text. IsLineOn case.now
         (naming_of manner.now.names) manner.now.without_ranks resident programme text.items) }
 {
-    let told = case.reason(resident, programme);
+    let reason = case.reason(resident, programme);
     let mut text = String::new(alloc);
     push_line(
         alloc,
@@ -230,19 +230,19 @@ fn line_of(
         &manner.names,
         resident,
         programme,
-        told,
+        reason,
         manner.without_ranks,
     )?;
     Ok(text.into_bytes())
 }
 
 // The text that answers the question, whose names were replaced by the members' numbers.
-fn told_text(alloc: Global, case: &Case, manner: &Manner, told: Told) -> Result<Vec<u8>, AllocError>
-    requires { IsTold case.now.docket.instance told }
+fn told_text(alloc: Global, case: &Case, manner: &Manner, whom: Told) -> Result<Vec<u8>, AllocError>
+    requires { IsTold case.now.docket.instance whom }
     ensures { IfOk result (λ text.
-        IsTextOf case.now (naming_of manner.now.names) manner.now.without_ranks told text.items) }
+        IsTextOf case.now (naming_of manner.now.names) manner.now.without_ranks whom text.items) }
 {
-    match told {
+    match whom {
         Told::All => table_of(alloc, case, manner),
         Told::Resident(resident) => lines_of(alloc, case, manner, resident),
         Told::Pair(resident, programme) => line_of(alloc, case, manner, resident, programme),
@@ -321,12 +321,12 @@ pub(crate) fn text_of(
     let docket = case.docket();
     let key = key_of(alloc, keys, docket, key_bytes)?;
     let names = Names { docket, key: &key };
-    let told = told_of(alloc, &names, asked)?;
+    let whom = told_of(alloc, &names, asked)?;
     let manner = Manner {
         names,
         without_ranks,
     };
-    Ok(told_text(alloc, case, &manner, told)?)
+    Ok(told_text(alloc, case, &manner, whom)?)
 }
 
 /// Reads a docket with a sheet within the standard limits, and writes the answer to the question. A question about a

@@ -136,13 +136,13 @@ fn answers_from(
 }
 
 // A fault of the files, with its file. Out of memory is no fault of a file.
-fn in_its_file(there: FileFault) -> WhyFault
-    ensures { result ≡ spec.in_its_file there }
+fn in_its_file(file_fault: FileFault) -> WhyFault
+    ensures { result ≡ spec.in_its_file file_fault }
 {
-    match there.fault {
+    match file_fault.fault {
         RecordsFault::Docket(DocketFault::Memory) => WhyFault::Docket(DocketFault::Memory),
         fault => WhyFault::Records {
-            file: there.file,
+            file: file_fault.file,
             fault,
         },
     }
@@ -193,7 +193,7 @@ impl Case {
                 Err(WhyFault::NoSheet) => Err(WhyFault::EmptySheet),
                 Err(_) => Err(WhyFault::Docket(DocketFault::Memory)),
             },
-            Err(there) => Err(in_its_file(there)),
+            Err(file_fault) => Err(in_its_file(file_fault)),
         }
     }
 

@@ -132,17 +132,20 @@ fn pair_of(
     programme: &[u8],
 ) -> Result<(Vec<u8>, bool), CompareFault>
     ensures { MatchResult result
-        (λ said. (pair_fault lists.now outcome.now resident.now programme.now ≡ None)
-        × (said.0.items ≡ pair.pair_words (content_of resident.now) (content_of programme.now))
-        × (said.1
+        (λ sentence. (pair_fault lists.now outcome.now resident.now programme.now ≡ None)
+        × (sentence.0.items ≡ pair.pair_words (content_of resident.now) (content_of programme.now))
+        × (sentence.1
         ≡ not (is_some (pair.difference (content_of resident.now) (content_of programme.now)))))
         (IsCompareFault (pair_fault lists.now outcome.now resident.now programme.now)) }
 {
-    let (one_text, other_text) = (short_text(alloc, resident)?, short_text(alloc, programme)?);
-    let one_rows = split_rows(alloc, one_text.as_slice())?;
-    let other_rows = split_rows(alloc, other_text.as_slice())?;
-    let (text, rows) = (one_text.as_slice(), one_rows.as_slice());
-    let one = match wanted(
+    let (resident_text, programme_text) = (
+        short_text(alloc, resident)?,
+        short_text(alloc, programme)?,
+    );
+    let resident_rows = split_rows(alloc, resident_text.as_slice())?;
+    let programme_rows = split_rows(alloc, programme_text.as_slice())?;
+    let (text, rows) = (resident_text.as_slice(), resident_rows.as_slice());
+    let resident_side = match wanted(
         alloc,
         keys,
         Kind::Resident,
@@ -155,8 +158,8 @@ fn pair_of(
         Ok(side) => side,
         Err(fault) => return Err(CompareFault::Wrong(0, fault)),
     };
-    let (text, rows) = (other_text.as_slice(), other_rows.as_slice());
-    let other = match wanted(
+    let (text, rows) = (programme_text.as_slice(), programme_rows.as_slice());
+    let programme_side = match wanted(
         alloc,
         keys,
         Kind::Programme,
@@ -169,10 +172,10 @@ fn pair_of(
         Ok(side) => side,
         Err(fault) => return Err(CompareFault::Wrong(1, fault)),
     };
-    let found = first_difference(&one, &other);
-    let mut said = Vec::new(alloc);
-    put_pair(&mut said, found, &one, &other)?;
-    Ok((said, found.is_none()))
+    let found = first_difference(&resident_side, &programme_side);
+    let mut sentence = Vec::new(alloc);
+    put_pair(&mut sentence, found, &resident_side, &programme_side)?;
+    Ok((sentence, found.is_none()))
 }
 
 /// Checks the receipts of a resident and of a programme against what was published. Writes whether they agree, or in

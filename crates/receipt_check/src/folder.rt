@@ -319,9 +319,9 @@ impl<'r, 'a> Held<'r, 'a> {
         let pairs = self.pairs(alloc)?;
         let differing = self.differing(alloc, pairs.as_slice())?;
         self.put_differing(text, differing.as_slice())?;
-        let there = self.sides.as_slice().len();
+        let present = self.sides.as_slice().len();
         let (compared, differ) = (pairs.as_slice().len(), differing.as_slice().len());
-        put_counts(text, there, members, compared, differ)?;
+        put_counts(text, present, members, compared, differ)?;
         let stable = self.is_stable(members, differing.as_slice());
         put_stable(text, stable)?;
         Ok(stable)
@@ -348,15 +348,15 @@ fn put_two(
 // pairs differ.
 fn put_counts(
     text: &mut Vec<u8>,
-    there: usize,
+    present: usize,
     members: usize,
     compared: usize,
     differing: usize,
 ) -> Result<(), AllocError>
     ensures { OnOk result (Grows text.old text.new
-        (folder.counts_text there members compared differing)) }
+        (folder.counts_text present members compared differing)) }
 {
-    put_two(text, there, b" of ", members, b" members are there, and ")?;
+    put_two(text, present, b" of ", members, b" members are there, and ")?;
     put_two(
         text,
         compared,

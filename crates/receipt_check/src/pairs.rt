@@ -83,10 +83,10 @@ fn said_of(
     files: &[Vec<u8>],
 ) -> Result<(Vec<u8>, bool), CompareFault>
     ensures { MatchResult result
-        (λ said. (folder.folder_fault lists.now outcome.now (bytes_in files.now) ≡ None)
-        × (said.0.items ≡ folder.folder_text lists.now.members
+        (λ text. (folder.folder_fault lists.now outcome.now (bytes_in files.now) ≡ None)
+        × (text.0.items ≡ folder.folder_text lists.now.members
         (folder.contents_of (bytes_in files.now)))
-        × (said.1 ≡ folder.is_stable lists.now.members (folder.contents_of (bytes_in files.now))))
+        × (text.1 ≡ folder.is_stable lists.now.members (folder.contents_of (bytes_in files.now))))
         (IsCompareFault (folder.folder_fault lists.now outcome.now (bytes_in files.now))) }
 {
     let texts = texts_of(alloc, files)?;
@@ -100,9 +100,9 @@ fn said_of(
         texts.as_slice(),
         rows.as_slice(),
     )?;
-    let mut said = Vec::new(alloc);
-    let stable = held.put_said(alloc, &mut said, lists.members as usize)?;
-    Ok((said, stable))
+    let mut text = Vec::new(alloc);
+    let stable = held.put_said(alloc, &mut text, lists.members as usize)?;
+    Ok((text, stable))
 }
 
 /// Checks the receipts of a folder against what was published, and compares those of residents and programmes who

@@ -22,13 +22,13 @@ pub(crate) struct Side<'r, 'a> {
 }
 
 // The later of two places on a list; if only one is given, this one.
-fn later(one: Option<usize>, other: Option<usize>) -> Option<usize>
-    ensures { result ≡ pair.later one other }
+fn later(place: Option<usize>, other: Option<usize>) -> Option<usize>
+    ensures { result ≡ pair.later place other }
 {
-    match (one, other) {
+    match (place, other) {
         (None, other) => other,
-        (Some(one), None) => Some(one),
-        (Some(one), Some(other)) => Some(if one < other { other } else { one }),
+        (Some(place), None) => Some(place),
+        (Some(place), Some(other)) => Some(if place < other { other } else { place }),
     }
 }
 

@@ -84,7 +84,7 @@ known_sent (Some o) (Some m) (Some n) none rows text e first second =
 -- if a text was added to a row writer with an empty buffer, and the buffer was then sent, the
 -- writer got this text
 pub sent : {W : Type 0} (contents : W → Option (List ℕ)) (start last : RowWriter W) (lent : MutBor W) (new : W) (none text : List ℕ) → IsOver start lent none
-    → none ≡ [] → Adds contents start last text → Writes contents last.writer.now new last.waiting.now.items → Writes contents lent.now new text
+    → none ≡ [] → Adds contents start last text → Writes contents last.writer.now new last.buffer.now.items → Writes contents lent.now new text
 sent contents start last lent new none text over empty added handed =
     subst (λ w. Writes contents w new text) over.1
     (known_sent _ _ _ _ _ text (over.2 ∙ empty) added.1 handed)

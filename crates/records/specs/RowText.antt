@@ -23,12 +23,12 @@ row_end fields = (if is_blank row_setup fields then quote_mark ∷ quote_mark �
 -- all bytes of the rows: the bytes that the writer holds, if they are known, and then the bytes in the
 -- buffer
 abbrev pub held : {W : Type 0} → (W → Option (List ℕ)) → RowWriter W → Option (List ℕ)
-held contents rows = append_known (contents rows.writer.now) rows.waiting.now.items
+held contents rows = append_known (contents rows.writer.now) rows.buffer.now.items
 
 -- the rows go to the borrowed writer, and the buffer has exactly these bytes
 abbrev pub IsOver : {W : Type 0} → RowWriter W → MutBor W → List ℕ → Type 0
-IsOver rows lent waiting =
-    (rows.writer.ghost_name ≡ lent.ghost_name) × (rows.writer.now ≡ lent.now) × (rows.waiting.now.items ≡ waiting)
+IsOver rows lent bytes =
+    (rows.writer.ghost_name ≡ lent.ghost_name) × (rows.writer.now ≡ lent.now) × (rows.buffer.now.items ≡ bytes)
 
 -- The rows still go to the same writer. The writer's bytes, followed by the buffer's bytes, grew by exactly this text.
 abbrev pub Adds : {W : Type 0} → (W → Option (List ℕ)) → RowWriter W → RowWriter W → List ℕ → Type 0

@@ -25,7 +25,7 @@ pub fn room_for_rows(alloc: Global) -> Result<Vec<u8>, AllocError>
 #[derive(Drop)]
 pub struct RowWriter<'a, W> {
     writer: &'a mut W,
-    waiting: &'a mut Vec<u8>,
+    buffer: &'a mut Vec<u8>,
 }
 
 // Whether a field that has this byte is written between quotes.
@@ -60,7 +60,7 @@ impl<'a, W: Write> RowWriter<'a, W> {
     {
         RowWriter {
             writer,
-            waiting: room,
+            buffer: room,
         }
     }
 
@@ -71,12 +71,12 @@ impl<'a, W: Write> RowWriter<'a, W> {
     fn put_past(&mut self, bytes: &[u8]) -> Result<(), WriteFailed>
         ensures { OnOk result (Adds W.contents self.old self.new bytes.now) }
     {
-        let Ok(()) = self.writer.write_all(self.waiting.as_slice()) else {
+        let Ok(()) = self.writer.write_all(self.buffer.as_slice()) else {
             return Err(WriteFailed);
         };
-        self.waiting.clear();
-        if bytes.len() <= self.waiting.capacity() {
-            let Ok(()) = self.waiting.extend_from_slice(bytes) else {
+        self.buffer.clear();
+        if bytes.len() <= self.buffer.capacity() {
+            let Ok(()) = self.buffer.extend_from_slice(bytes) else {
                 unreachable!("there is room")
             };
             return Ok(());
@@ -93,10 +93,10 @@ impl<'a, W: Write> RowWriter<'a, W> {
     fn put(&mut self, bytes: &[u8]) -> Result<(), WriteFailed>
         ensures { OnOk result (Adds W.contents self.old self.new bytes.now) }
     {
-        if bytes.len() > self.waiting.capacity() - self.waiting.len() {
+        if bytes.len() > self.buffer.capacity() - self.buffer.len() {
             return self.put_past(bytes);
         }
-        let Ok(()) = self.waiting.extend_from_slice(bytes) else {
+        let Ok(()) = self.buffer.extend_from_slice(bytes) else {
             unreachable!("there is room")
         };
         Ok(())
@@ -176,10 +176,10 @@ impl<'a, W: Write> RowWriter<'a, W> {
     /// Sends the remaining bytes of the buffer to the writer.
     pub fn send(self) -> Result<(), WriteFailed>
         ensures { OnOk result
-            (Writes W.contents self.entry.writer.now self.exit.0.now self.entry.waiting.now.items) }
+            (Writes W.contents self.entry.writer.now self.exit.0.now self.entry.buffer.now.items) }
     {
-        let RowWriter { writer, waiting } = self;
-        match writer.write_all(waiting.as_slice()) {
+        let RowWriter { writer, buffer } = self;
+        match writer.write_all(buffer.as_slice()) {
             Ok(()) => Ok(()),
             Err(_) => Err(WriteFailed),
         }

@@ -43,8 +43,8 @@ impl From<AnswerFault> for ServeFault {
 
     ghost from_gives = { λ told fault. fault ≡ fault_told told };
 
-    fn from(told: AnswerFault) -> ServeFault {
-        match told {
+    fn from(fault: AnswerFault) -> ServeFault {
+        match fault {
             AnswerFault::Docket(fault) => ServeFault::Docket(fault),
             AnswerFault::NoSheet => ServeFault::NoSheet,
             AnswerFault::NoJournal => ServeFault::NoJournal,

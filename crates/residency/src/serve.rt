@@ -137,7 +137,7 @@ fn write_audit<W: Write>(
     ensures before { IfErr result (λ fault. IsBeforeWriting fault → writer.new ≡ writer.old) }
 {
     match audit_docket(alloc, docket, writer) {
-        Ok(told) => Ok(Status::from(told)),
+        Ok(status) => Ok(Status::from(status)),
         Err(fault) => Err(ServeFault::from(fault)),
     }
 }
@@ -155,7 +155,7 @@ fn write_answer<W: Write>(
     ensures before { IfErr result (λ fault. IsBeforeWriting fault → writer.new ≡ writer.old) }
 {
     match replay_docket(alloc, docket, writer) {
-        Ok(told) => Ok(Status::from(told)),
+        Ok(status) => Ok(Status::from(status)),
         Err(fault) => Err(ServeFault::from(fault)),
     }
 }

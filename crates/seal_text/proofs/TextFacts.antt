@@ -29,7 +29,7 @@ use Rattle.seal_text.specs.Texts.{IsResidentResult, PushesResults, line_if, list
 -- if a text was added to an empty buffer, and the buffer was then sent to the writer, the writer got
 -- this text
 pub handed_over : {W : Type 0} (contents : W → Option (List ℕ)) (start last : RowWriter W) (old new : W) (none text : List ℕ) → start.writer.now ≡ old →
-    start.waiting.now.items ≡ none → none ≡ [] → Adds contents start last text → Writes contents last.writer.now new last.waiting.now.items
+    start.buffer.now.items ≡ none → none ≡ [] → Adds contents start last text → Writes contents last.writer.now new last.buffer.now.items
     → Appends (contents old) (contents new) text
 handed_over contents start last old new none text over holds empty added handed =
     sent contents start last (record { ref_ptr = start.writer.ref_ptr; ghost_name = start.writer.ghost_name; now = old }) new none text (refl, over, holds) empty

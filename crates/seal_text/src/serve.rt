@@ -105,17 +105,18 @@ fn text_of_case(
     wanted: Wanted,
     secret: &[u8; 32],
     case: &Case,
-    given: &ProgrammeLists,
+    given_lists: &ProgrammeLists,
     names: &RealNames,
 ) -> Result<Vec<u8>, AllocError>
     requires sheet { HasSheet case.now }
-    requires lists { NameMembers case.now.docket given.now case.now.written }
-    ensures { IfOk result (λ text. (draft : Draft) → AreListsOf draft given.now case.now.written
+    requires lists { NameMembers case.now.docket given_lists.now case.now.written }
+    ensures { IfOk result (λ text. (draft : Draft)
+        → AreListsOf draft given_lists.now case.now.written
         → (results : List (List ℕ)) × AreResultTexts case.now results
         × (text.items ≡ serving.text_of wanted secret.now case.now.docket
         (texts.lists_texts case.now.docket draft names.now) (Some results))) }
 {
-    let lists = lists_texts(alloc, case.docket(), given, case.written(), names)?;
+    let lists = lists_texts(alloc, case.docket(), given_lists, case.written(), names)?;
     let outcome = result_texts(alloc, case)?;
     text_of(alloc, wanted, secret, case.docket(), lists, Some(outcome))
 }
@@ -127,15 +128,15 @@ fn text_of_docket(
     secret: &[u8; 32],
     docket: &Docket,
     written: &WrittenLists,
-    given: &ProgrammeLists,
+    given_lists: &ProgrammeLists,
     names: &RealNames,
 ) -> Result<Vec<u8>, AllocError>
-    requires { NameMembers docket.now given.now written.now }
-    ensures { IfOk result (λ text. (draft : Draft) → AreListsOf draft given.now written.now
+    requires { NameMembers docket.now given_lists.now written.now }
+    ensures { IfOk result (λ text. (draft : Draft) → AreListsOf draft given_lists.now written.now
         → text.items ≡ serving.text_of wanted secret.now docket.now
         (texts.lists_texts docket.now draft names.now) None) }
 {
-    let lists = lists_texts(alloc, docket, given, written, names)?;
+    let lists = lists_texts(alloc, docket, given_lists, written, names)?;
     text_of(alloc, wanted, secret, docket, lists, None)
 }
 
@@ -172,7 +173,7 @@ fn early_text<H: RandomSource>(
         IsEarlyText wanted docket.now (option_copied key.entry) secret.now text.items) }
     ensures fault { IfErr result (IsUnmade wanted docket.now None (option_copied key.entry)) }
 {
-    let (read, written, given) = match read_lists(rt, alloc, docket, &[]) {
+    let (read, written, given_lists) = match read_lists(rt, alloc, docket, &[]) {
         Ok(read) => read,
         Err(fault) => return Err(SealFault::Files(fault)),
     };
@@ -180,7 +181,7 @@ fn early_text<H: RandomSource>(
         Ok(names) => names,
         Err(fault) => return Err(fault),
     };
-    match text_of_docket(alloc, wanted, secret, &read, &written, &given, &names) {
+    match text_of_docket(alloc, wanted, secret, &read, &written, &given_lists, &names) {
         Ok(text) => Ok(text),
         Err(_) => Err(SealFault::Files(FilesFault::Memory)),
     }
@@ -207,14 +208,14 @@ fn text_told<H: RandomSource>(
     alloc: Global,
     wanted: Wanted,
     case: &Case,
-    given: &ProgrammeLists,
+    given_lists: &ProgrammeLists,
     key: Option<&[u8]>,
     secret: &[u8; 32],
 ) -> Result<Vec<u8>, SealFault>
     requires sheet { HasSheet case.now }
-    requires lists { NameMembers case.now.docket given.now case.now.written }
+    requires lists { NameMembers case.now.docket given_lists.now case.now.written }
     ensures text { IfOk result (λ text. (draft : Draft)
-        → AreListsOf draft given.now case.now.written
+        → AreListsOf draft given_lists.now case.now.written
         → IsTextOf wanted case.now draft (option_copied key.entry) secret.now text.items) }
     ensures fault { IfErr result (IsUntold wanted case.now (option_copied key.entry)) }
 {
@@ -227,7 +228,7 @@ fn text_told<H: RandomSource>(
         Ok(false) => return Err(SealFault::Unstable),
         Err(_) => return Err(SealFault::Files(FilesFault::Memory)),
     }
-    match text_of_case(alloc, wanted, secret, case, given, &names) {
+    match text_of_case(alloc, wanted, secret, case, given_lists, &names) {
         Ok(text) => Ok(text),
         Err(_) => Err(SealFault::Files(FilesFault::Memory)),
     }
@@ -248,13 +249,13 @@ fn full_text<H: RandomSource>(
     ensures fault { IfErr result
         (IsUnmade wanted docket.now (Some sheet.now) (option_copied key.entry)) }
 {
-    let (case, given) = match read_case(rt, alloc, docket, sheet) {
+    let (case, given_lists) = match read_case(rt, alloc, docket, sheet) {
         Ok(read) => read,
         Err(fault) => return Err(SealFault::Files(fault)),
     };
     // Only the proof needs this call: by its clause the docket is whole.
     let _inst = case.docket().instance();
-    text_told(rt, alloc, wanted, &case, &given, key, secret)
+    text_told(rt, alloc, wanted, &case, &given_lists, key, secret)
 }
 
 // The roots or the receipts, as wanted, from the bytes of a docket and, if there is one, of its sheet.

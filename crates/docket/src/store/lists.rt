@@ -70,13 +70,13 @@ impl Model for Lists {
 // The count of new names, after the number of texts grew from `texts_before` to `texts_after`. Once there are too
 // many new names, the count stays the same.
 #[inline(always)]
-fn counted(brought: usize, before: usize, after: usize) -> usize
-    requires within { before ≤ after }
-    requires one { after ≤ before + 1 }
-    ensures counted { brought ≤ MOST_NAMES → result + before ≡ brought + after }
+fn counted(brought: usize, texts_before: usize, texts_after: usize) -> usize
+    requires within { texts_before ≤ texts_after }
+    requires one { texts_after ≤ texts_before + 1 }
+    ensures counted { brought ≤ MOST_NAMES → result + texts_before ≡ brought + texts_after }
     ensures cut { MOST_NAMES < brought → result ≡ brought }
 {
-    if brought <= MOST_NAMES && before < after {
+    if brought <= MOST_NAMES && texts_before < texts_after {
         brought + 1
     } else {
         brought
@@ -98,9 +98,9 @@ fn number_name(
         → brought.new + length texts.old ≡ brought.old + length texts.new) }
     ensures cut { OnOk result (MOST_NAMES < brought.old → brought.new ≡ brought.old) }
 {
-    let before = texts.len();
+    let texts_before = texts.len();
     let number = texts.name(text)?;
-    *brought = counted(*brought, before, texts.len());
+    *brought = counted(*brought, texts_before, texts.len());
     Ok(number)
 }
 

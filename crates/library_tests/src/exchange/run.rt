@@ -58,11 +58,12 @@ impl Run {
         )
     }
 
-    pub(super) fn given(&self, alloc: Global) -> Result<Assignment, ModelFault>
-        ensures { IfOk result (λ given. length given ≡ length self.now.inst.resident_lists) }
+    pub(super) fn assignment(&self, alloc: Global) -> Result<Assignment, ModelFault>
+        ensures { IfOk result (λ assignment.
+            length assignment ≡ length self.now.inst.resident_lists) }
     {
-        let mut given = Assignment::new(alloc, self.inst.residents())?;
-        self.core.assignment(&mut given);
-        Ok(given)
+        let mut assignment = Assignment::new(alloc, self.inst.residents())?;
+        self.core.assignment(&mut assignment);
+        Ok(assignment)
     }
 }

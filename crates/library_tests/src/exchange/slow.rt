@@ -90,21 +90,21 @@ fn count(mail: Mail, desk: u32, j: &[Event]) -> usize {
 
 /// The item at index `place` in this list of a desk.
 fn item(mail: Mail, desk: u32, j: &[Event], place: usize) -> Option<Letter> {
-    let mut left = place;
+    let mut items_left = place;
     for event in j {
         if let Some(letter) = letter(mail, desk, event) {
-            if left == 0 {
+            if items_left == 0 {
                 return Some(letter);
             }
-            left -= 1;
+            items_left -= 1;
         }
     }
     None
 }
 
 fn place(ranking: &[ProgrammeNo], p: u32) -> usize {
-    let found = ranking.iter().position(|q| q.0 == p);
-    found.unwrap_or(ranking.len())
+    let index = ranking.iter().position(|q| q.0 == p);
+    index.unwrap_or(ranking.len())
 }
 
 /// The place on the ranking of the best programme whose offer the resident took, or the ranking's length if the
@@ -121,11 +121,11 @@ fn best_place(ranking: &[ProgrammeNo], r: ResidentNo, j: &[Event]) -> usize {
 
 /// The answers that an offer by this programme calls for, if the resident takes it after these events.
 fn calls(ranking: &[ProgrammeNo], r: ResidentNo, earlier: &[Event], p: u32) -> [Option<Letter>; 2] {
-    let before = best_place(ranking, r, earlier);
-    if place(ranking, p) >= before {
+    let best_so_far = best_place(ranking, r, earlier);
+    if place(ranking, p) >= best_so_far {
         return [Some((p, Some(AnswerKind::Decline))), None];
     }
-    let release = match ranking.get(before) {
+    let release = match ranking.get(best_so_far) {
         Some(q) => Some((q.0, Some(AnswerKind::Release))),
         None => None,
     };
@@ -134,17 +134,17 @@ fn calls(ranking: &[ProgrammeNo], r: ResidentNo, earlier: &[Event], p: u32) -> [
 
 /// The first answer that the resident owes and has not given.
 fn first_due(ranking: &[ProgrammeNo], r: ResidentNo, j: &[Event]) -> Option<Letter> {
-    let mut given = count(Mail::AnswersOf, r.0, j);
+    let mut answers_given = count(Mail::AnswersOf, r.0, j);
     for (index, event) in j.iter().enumerate() {
         let Some((p, _)) = letter(Mail::Takes, r.0, event) else {
             continue;
         };
         let [first, second] = calls(ranking, r, &j[..index], p);
         let called = if second.is_some() { 2 } else { 1 };
-        if given < called {
-            return if given == 0 { first } else { second };
+        if answers_given < called {
+            return if answers_given == 0 { first } else { second };
         }
-        given -= called;
+        answers_given -= called;
     }
     None
 }
@@ -213,10 +213,10 @@ pub(super) fn refusal(
 }
 
 /// Whether the core and the slow definitions give the same answer.
-pub(super) fn is_same(told: Result<(), Refused>, slow: Option<Refused>) -> bool {
+pub(super) fn is_same(core_answer: Result<(), Refused>, slow: Option<Refused>) -> bool {
     match slow {
-        Some(why) => told == Err(why),
-        None => told.is_ok(),
+        Some(why) => core_answer == Err(why),
+        None => core_answer.is_ok(),
     }
 }
 
@@ -275,9 +275,9 @@ fn answer(
     cap: Capacity,
     j: &[Event],
     r: ResidentNo,
-    given: (ProgrammeNo, AnswerKind),
+    given_answer: (ProgrammeNo, AnswerKind),
 ) -> Option<Refused> {
-    let (p, kind) = given;
+    let (p, kind) = given_answer;
     if is_strange(inst, p, r) {
         return Some(Refused::NoSuchDesk);
     }

@@ -125,15 +125,15 @@ fn next_event(numbers: &mut Numbers, run: &Run) -> Event {
 /// Whether the core and the slow definitions agree about an event. If the event may follow, it is entered and added
 /// to the list.
 fn agrees_once(run: &mut Run, cap: Capacity, list: &mut Vec<Event>, event: Event) -> bool {
-    let again = event;
-    let more = event;
+    let same_event = event;
+    let event_to_add = event;
     let slow = slow::refusal(&run.inst, cap, list.as_slice(), event);
     let is_free = slow.is_none();
-    if !slow::is_same(run.step(again), slow) {
+    if !slow::is_same(run.step(same_event), slow) {
         return false;
     }
     if is_free {
-        let Ok(()) = list.push(more) else {
+        let Ok(()) = list.push(event_to_add) else {
             return false;
         };
     }

@@ -162,9 +162,9 @@ fn beyond(alloc: Global, limit: usize) -> Result<String, AllocError> {
 fn none_is_matched_beyond(rt: HostRuntime) -> Result<(), Fail> {
     for (limit, fault) in BEYOND.iter().enumerate() {
         let text = beyond(rt.alloc(), limit)?;
-        let ending = (Err(ServeFault::Docket(*fault)), "", 3);
+        let expected = (Err(ServeFault::Docket(*fault)), "", 3);
         assert!(rt;
-            serves(rt, rt.alloc(), MATCH, &[text.as_str()], ending)?,
+            serves(rt, rt.alloc(), MATCH, &[text.as_str()], expected)?,
             "{fault}"
         );
     }

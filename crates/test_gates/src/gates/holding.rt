@@ -53,9 +53,9 @@ impl Held {
         if self.passed.fetch_add(1, Ordering::SeqCst) != self.place {
             return false;
         }
-        let before = self.count_others(worker);
+        let others_at_start = self.count_others(worker);
         for _ in 0..TURNS {
-            if self.count_others(worker).saturating_sub(before) >= 2 {
+            if self.count_others(worker).saturating_sub(others_at_start) >= 2 {
                 self.held.store(true, Ordering::SeqCst);
                 return false;
             }

@@ -16,8 +16,8 @@ fn tells(alloc: Global, text: &str, wanted: &str) -> Result<bool, AllocError> {
     match read_docket_within(&OneByte(7), alloc, limits, text.as_bytes()) {
         Ok(_) => Ok(wanted == "read"),
         Err(fault) => {
-            let told = fault.within(limits).to_string(alloc)?;
-            Ok(told.as_str() == wanted)
+            let fault_text = fault.within(limits).to_string(alloc)?;
+            Ok(fault_text.as_str() == wanted)
         }
     }
 }

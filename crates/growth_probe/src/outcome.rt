@@ -3,7 +3,7 @@ use std::io::Write;
 
 /// What a call did.
 #[derive(Clone, Copy, Debug, PartialEq, Eq)]
-pub(super) enum Seen {
+pub(super) enum Outcome {
     /// The call gave its right answer.
     Answered,
     /// The call answered that memory ran out, and changed nothing. When it was made again, it gave its right
@@ -15,43 +15,43 @@ pub(super) enum Seen {
     Wrong,
 }
 
-impl Seen {
+impl Outcome {
     /// What a call did that answered without a fault; `is_right` says whether its answer was right.
-    pub(super) fn at_once(is_right: bool) -> Seen {
+    pub(super) fn at_once(is_right: bool) -> Outcome {
         if is_right {
-            Seen::Answered
+            Outcome::Answered
         } else {
-            Seen::Wrong
+            Outcome::Wrong
         }
     }
 
     /// What a call did that first answered that memory ran out; `is_right` says whether its second answer
     /// was right.
-    pub(super) fn after_memory(is_right: bool) -> Seen {
+    pub(super) fn after_memory(is_right: bool) -> Outcome {
         if is_right {
-            Seen::WantedMemory
+            Outcome::WantedMemory
         } else {
-            Seen::Wrong
+            Outcome::Wrong
         }
     }
 
     /// What a call did that first answered that a worker could not be started; `is_right` says whether its
     /// second answer was right.
-    pub(super) fn after_thread(is_right: bool) -> Seen {
+    pub(super) fn after_thread(is_right: bool) -> Outcome {
         if is_right {
-            Seen::WantedThread
+            Outcome::WantedThread
         } else {
-            Seen::Wrong
+            Outcome::Wrong
         }
     }
 
     /// The word for what the call did.
     pub(super) fn text(self) -> &'static str {
         match self {
-            Seen::Answered => "answered",
-            Seen::WantedMemory => "memory",
-            Seen::WantedThread => "thread",
-            Seen::Wrong => "wrong",
+            Outcome::Answered => "answered",
+            Outcome::WantedMemory => "memory",
+            Outcome::WantedThread => "thread",
+            Outcome::Wrong => "wrong",
         }
     }
 }
