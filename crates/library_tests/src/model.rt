@@ -335,7 +335,7 @@ fn national_faults_name_their_numbers(rt: HostRuntime) {
         ),
     ] {
         let limit_fault = fault.within(Limits::National);
-        let printed = format!(in rt.alloc(); "{told}").expect(&rt, "a text");
+        let printed = format!(in rt.alloc(); "{limit_fault}").expect(&rt, "a text");
         assert!(rt; printed.as_str() == text, "{printed}");
     }
 }

@@ -137,7 +137,7 @@ fn every_worker_heeds_a_stop(rt: HostRuntime) -> Result<(), Fail> {
                     let ending = stopped_from(rt, rt.alloc(), inst, (cap, workers), first_pass);
                     assert!(rt;
                         ending == Some(Ending::Stopped),
-                        "from {first} on, {cap:?}, {workers} workers"
+                        "from {first_pass} on, {cap:?}, {workers} workers"
                     );
                 }
             }

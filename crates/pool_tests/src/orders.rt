@@ -203,7 +203,7 @@ struct ClosesBeside<R: Wait + Copy> {
     rt: R,
     clock: AtomicU64,
     hears: AtomicU64,
-    outcome: AtomicU64,
+    entered: AtomicU64,
 }
 
 impl<R: Wait + Copy + Sync> Gate for ClosesBeside<R> {
@@ -220,20 +220,23 @@ impl<R: Wait + Copy + Sync> Gate for ClosesBeside<R> {
     }
 
     fn entered(&self, _worker: usize) {
-        let outcome = self.told.fetch_add(1, Ordering::SeqCst).saturating_add(1);
+        let count = self
+            .entered
+            .fetch_add(1, Ordering::SeqCst)
+            .saturating_add(1);
         // two hears come, then the close, and no event after that
-        match outcome {
+        match count {
             7 | 8 => {
                 wait_for(
                     self.rt,
                     &self.clock,
-                    &self.told,
-                    outcome.saturating_add(1),
+                    &self.entered,
+                    count.saturating_add(1),
                     LONG,
                 );
             }
             9 => {
-                wait_for(self.rt, &self.clock, &self.told, 10, 700);
+                wait_for(self.rt, &self.clock, &self.entered, 10, 700);
             }
             _ => {}
         }
@@ -249,11 +252,11 @@ fn a_close_is_told_once(rt: HostRuntime) -> Result<(), Fail> {
         rt,
         clock: AtomicU64::new(0),
         hears: AtomicU64::new(0),
-        outcome: AtomicU64::new(0),
+        entered: AtomicU64::new(0),
     };
     let outcome = ran(rt, rt.alloc(), TWO_PAIRS, Capacity::Full, 2, &gate)?;
     assert!(rt; outcome.ending == Ending::Closed && outcome.journal.len() == 9);
-    assert!(rt; gate.told.load(Ordering::SeqCst) == 9);
+    assert!(rt; gate.entered.load(Ordering::SeqCst) == 9);
     Ok(())
 }
 

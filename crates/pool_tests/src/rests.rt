@@ -122,7 +122,7 @@ struct HoldsTold<R: Wait + Copy> {
     rt: R,
     clock: AtomicU64,
     place: u32,
-    outcome: AtomicU32,
+    entered: AtomicU32,
     next: [AtomicU32; 3],
     is_over: AtomicBool,
 }
@@ -133,7 +133,7 @@ impl<R: Wait + Copy> HoldsTold<R> {
             rt,
             clock: AtomicU64::new(0),
             place,
-            outcome: AtomicU32::new(0),
+            entered: AtomicU32::new(0),
             next: [
                 AtomicU32::new(A_PUT),
                 AtomicU32::new(A_PUT),
@@ -180,11 +180,16 @@ impl<R: Wait + Copy + Sync> Gate for HoldsTold<R> {
 
     fn entered(&self, worker: usize) {
         let needed = self.needed(worker);
-        if self.told.fetch_add(1, Ordering::SeqCst).saturating_add(1) != self.place {
+        if self
+            .entered
+            .fetch_add(1, Ordering::SeqCst)
+            .saturating_add(1)
+            != self.place
+        {
             return;
         }
         for _ in 0..LOOKS {
-            if self.told.load(Ordering::SeqCst).saturating_add(needed) >= 4 * PAIRS {
+            if self.entered.load(Ordering::SeqCst).saturating_add(needed) >= 4 * PAIRS {
                 self.is_over.store(true, Ordering::SeqCst);
                 return;
             }

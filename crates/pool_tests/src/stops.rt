@@ -207,7 +207,7 @@ fn a_run_that_is_stopped_at_any_pass_is_its_journal(rt: HostRuntime) -> Result<(
         for cap in [Capacity::Full, Capacity::Each(1)] {
             assert!(rt;
                 stops_well(rt, rt.alloc(), &inst, cap, first_pass),
-                "from {first} on, {cap:?}"
+                "from {first_pass} on, {cap:?}"
             );
         }
     }

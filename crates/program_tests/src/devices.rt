@@ -123,7 +123,7 @@ fn tells_of_broken_writers(rt: HostRuntime) -> Result<(), Fail> {
         for good_calls in 0..calls {
             assert!(rt;
                 tells_of_cut_output(rt, alloc, order, input.as_str(), text, good_calls),
-                "{good}"
+                "{good_calls}"
             );
         }
         assert!(rt; writes_all(rt, alloc, order, input.as_str(), text, status, calls));
