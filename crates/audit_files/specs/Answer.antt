@@ -34,8 +34,8 @@ TellsFirst d first =
     (sheet : List (Option ℕ)) → d.sheet ≡ Some sheet →
     MatchOption first (IsSettled d.instance sheet) (IsUnlikeResult d.instance sheet)
 
--- If there is a journal's file, the rows of its replay were added to the text, and the status is that of the replay.
--- Else nothing was added, and there is no status.
+-- If there is a journal's file, the rows of its replay were added, and the status is the replay's. Else nothing was
+-- added, and there is none.
 abbrev pub Replays : Contents → Option (List ℕ) → List ℕ → Option Status → List ℕ → Type 0
 Replays d None before status after = (status ≡ None) × (after ≡ before)
 Replays d (Some bytes) before None after = ⊥

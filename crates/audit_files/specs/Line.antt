@@ -30,8 +30,8 @@ pub record GivesOrder (rows : List Row) (order : Order) : Type 0 where
 abbrev pub IsInput : Option Text → Type 0
 IsInput path = path ≡ Some (codes "-")
 
--- more than one of the three files would come from standard input; `NamesTwice` says this of the files
--- that the values on the command line name
+-- two or three of the files would come from standard input; `NamesTwice` says this of the values on
+-- the command line
 abbrev pub IsTwice : Option Text → Option Text → Option Text → Type 0
 IsTwice docket sheet journal = (IsInput docket × IsInput sheet) ⊎ ((IsInput docket × IsInput journal) ⊎ (IsInput sheet × IsInput journal))
 

@@ -42,7 +42,7 @@ pub fn audit_docket<W: Write>(
     let Some(sheet) = docket.sheet() else {
         return Err(AnswerFault::NoSheet);
     };
-    // Only the proof needs this call: by its clause the rankings of an instance are mutual and within the limits.
+    // For the proof alone: the rankings of an instance are mutual and within the limits.
     let _instance = docket.instance().residents();
     let report = report_of(alloc, docket, sheet)?;
     match write_report(alloc, docket, &report, writer) {

@@ -64,8 +64,8 @@ letting_go desks d again = let_go_from desks d again (place_of desks d)
 abbrev pub is_listed : Desks → Bool
 is_listed desks = nat_lt 0 (length desks.ready) || nat_lt 0 (length desks.behind)
 
--- The next desk, and the desks after a worker took it: it is held and no longer listed. It comes from the second
--- list only if the first list is empty. `taken` uses the desks' own two lists.
+-- The next desk, and the desks after a worker took it. It comes from the second list only if the first is empty.
+-- `taken` uses the desks' own lists.
 abbrev pub taken_from : Desks → List ℕ → List ℕ → Option (ℕ × Desks)
 taken_from desks (d ∷ ready) behind = Some (d, record { places = slice_set desks.places d InHand; ready = ready; behind = behind })
 taken_from desks [] (d ∷ behind) = Some (d, record { places = slice_set desks.places d InHand; ready = []; behind = behind })

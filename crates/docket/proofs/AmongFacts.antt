@@ -24,7 +24,6 @@ count_all p (x ∷ xs) h = count_cons p x xs ∙ by (p x) h (count_all p xs)
     by true e more = let rest = more e in omega (arith, rest)
     by false e more = absurd (cc e)
 
--- if every item that passes one test passes a second test, the second test counts at least as many items
 pub count_wider : (p q : List ℕ → Bool) → ((x : List ℕ) → p x ≡ true → q x ≡ true) → (xs : List (List ℕ)) → count_by p xs ≤ count_by q xs
 count_wider p q h [] = omega arith
 count_wider p q h (x ∷ xs) = rw (count_cons p x xs, count_cons q x xs) (by (p x) refl (q x) refl (count_wider p q h xs))
@@ -55,8 +54,6 @@ count_one k (x ∷ xs) d = rw (count_cons (λ x. bytes_eq x k) x xs) (by (bytes_
     by true e le = let none = count_same x k (same_bytes x k e) xs (IsDistinct-head bytes_eq x xs d) in omega (arith, none)
     by false e le = omega (arith, le)
 
--- if each item that passes a first test passes a second or a third test, the second and third counts together are
--- at least the first count
 pub count_split : {A : Type 0} (p q r : A → Bool) → ((x : A) → p x ≡ true → (q x || r x) ≡ true) → (xs : List A) → count_by p xs ≤ count_by q xs + count_by r xs
 count_split p q r h [] = omega arith
 count_split p q r h (x ∷ xs) = rw (count_cons p x xs, count_cons q x xs, count_cons r x xs) (by (p x) refl (q x) refl (r x) refl (count_split p q r h xs))

@@ -340,7 +340,6 @@ pub test_passed : (lim : Limits) (before : List Fields) (row : Fields) (test : B
     → limit_fault lim before row ≡ None → option_or (repeat_fault before row) (limit_fault lim before row) ≡ None
 test_passed lim before row test fault e f g = rw (e, f, g) refl
 
--- an option that has no value, by the test for a value, is none
 pub none_is : {A : Type 0} (o : Option A) → is_some o ≡ false → o ≡ None
 none_is None e = refl
 none_is (Some x) e = absurd (cc e)

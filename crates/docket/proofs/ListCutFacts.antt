@@ -1,5 +1,5 @@
--- If the store does not keep all entries, some name in the kept entries is no member's. So the second pass ends within
--- the kept entries, and with the same fault as with all entries.
+-- If the store does not keep all entries, some kept name is no member's. So the second pass ends within the kept
+-- entries, with the same fault.
 use Rattle.std.proofs.Common.{◌≡◌, ◌≤◌, ◌<◌, ◌+◌, ℕ, List, [], ◌∷◌, ◌++◌, Bool, true, false, length, count_by, sym, ◌∙◌, refl, ap, subst, arith, Option, Some, None, append_assoc, append-nil, is_some}
 use Rattle.std.specs.Prelude.{◌||◌, bytes_eq}
 use Rattle.std.specs.List.{list_any, list_all, IsDistinct}

@@ -1,6 +1,5 @@
--- The second pass goes over the entries, and each entry stands for its record. These lemmas follow the
--- records and the entries that the pass has not reached yet. In all of them `done` are the records that
--- the pass has gone over, and `left` are the entries not reached.
+-- The second pass goes over entries, each of which stands for a record. `done` are the records that it
+-- has gone over, and `left` the entries that it has not reached.
 use Rattle.std.proofs.Common.{◌≡◌, ◌<◌, ◌+◌, List, [], ◌∷◌, ◌++◌, Bool, true, false, length, take, sym, ◌∙◌, refl, ap, subst, arith, None, append_assoc, append-nil, get_or}
 use Rattle.std.specs.Prelude.{◌||◌}
 use Rattle.std.proofs.lemmas.Bool.{or_parts}

@@ -27,8 +27,7 @@ within_or_over a b = by (nat_le a b) refl
     by true e = inl (search (rules, e))
     by false e = inr (search (rules, e))
 
--- if all items pass a test, and whatever passes it passes a second test, all items pass the second
--- test
+-- items that all pass a test all pass a wider test
 pub all_wider : (p q : List ℕ → Bool) → ((t : List ℕ) → p t ≡ true → q t ≡ true) → (xs : List (List ℕ)) → list_all p xs ≡ true → list_all q xs ≡ true
 all_wider p q h [] e = refl
 all_wider p q h (x ∷ xs) e =

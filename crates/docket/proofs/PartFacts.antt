@@ -54,8 +54,8 @@ fault_from f (Some all) kept rows (Some l) after row e s g none (inr here) =
     let whole : all ≡ rows ++ row ∷ g.0 = s.2 ∙ ap (λ (r : List Fields). rows ++ r) (sym same ∙ g.2) in
     inr (rw whole (found_from f kept rows g.0 row e none here))
 
--- the fault of a record within the limit on records: first that it belongs to another part, then
--- what the first pass finds
+-- within the limit on records: first the fault of a record of another part, then the first pass's
+-- fault
 pub part_few : (part : Option Part) (lim : Limits) (before : List Fields) (row : Fields) → length before < most_records lim
     → part_fault part lim before row ≡ option_or (kind_fault part (next_place before) row) (first_pass_fault lim before row)
 unfolding part_fault

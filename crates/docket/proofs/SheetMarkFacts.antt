@@ -30,8 +30,8 @@ use Rattle.docket.proofs.DeclarationFacts.{list_any-if, option_or-none}
 use Rattle.docket.proofs.NumberFacts.{distinct, at_number, map_at}
 use Rattle.docket.proofs.RankingFacts.{bytes_eq-swap, map-same, find_none, find-push}
 
--- for each name there is a test of rows; one more row makes true, for the name whose test it passes, that
--- some row passes the test, and changes this for no other name
+-- for each name, whether some row passes its test: one more row changes this only for the name whose test
+-- it passes
 any_at : (p : List ℕ → Fields → Bool) (names : List (List ℕ)) (done : List Fields) (row : Fields) (name : List ℕ) (i : ℕ) → distinct names ≡ true
     → number_in names name ≡ Some i → p name row ≡ true → ((x : List ℕ) → bytes_eq name x ≡ false → p x row ≡ false)
     → map (λ n. list_any (p n) (done ++ row ∷ [])) names ≡ slice_set (map (λ n. list_any (p n) done) names) i true

@@ -60,9 +60,8 @@ pub record IsDeclared (d : Declarations) (texts : Fields) (rows : List Fields) :
 abbrev pub AreFew : Option ℕ → Type 0
 AreFew workers = IfSome workers (λ n. n ≤ 8)
 
--- The declarations before and after record number `place`. If the old declarations fit the earlier records,
--- the new declarations fit the earlier records and this record. The limits are unchanged, and there are never
--- more than 8 workers.
+-- The declarations before and after record number `place`. If the old ones fit the earlier records, the new
+-- ones fit these and this record. The limits are unchanged, and there are never more than 8 workers.
 pub record Declares (old new : Declarations) (texts : Fields) (place : ℕ) (row : Fields) : Type 0 where
   pub limits : new.builder.limits ≡ old.builder.limits
   pub workers : AreFew old.workers → AreFew new.workers

@@ -22,8 +22,8 @@ is_member members text = is_some (position (nat_eq text) members)
 abbrev pub member_at : List ℕ → ℕ → ℕ
 member_at members text = unwrap_or (position (nat_eq text) members) 0
 
--- The second pass can test the kept names in place of the record's list. Some kept name is unknown exactly if
--- some name of the record's list is unknown. If no kept name is unknown, the kept names are the whole list.
+-- The kept names can stand for the record's list: some kept name is unknown exactly if some listed name is.
+-- If none is unknown, the kept names are the whole list.
 pub record ShowList (others : List (List ℕ)) (row : Fields) (listed : List (List ℕ)) : Type 0 where
   pub same : list_all (is_declared others) listed ≡ list_all (is_declared others) (drop 2 row)
   pub whole : list_all (is_declared others) listed ≡ true → listed ≡ drop 2 row

@@ -108,9 +108,8 @@ entry_names e = e.owner ∷ e.listed
 abbrev pub names_in : List ListEntry → List (List ℕ)
 names_in entries = flat_map entry_names entries
 
--- The store keeps an entry of each list and each withdrawal in these records. If these records brought more new
--- texts than there can be members, only the first entries may be kept; these entries have more different names
--- than there can be members.
+-- The store has the entries of the lists and withdrawals in these records. It may have only the first entries
+-- if these have more different names than there can be members.
 pub record AreLists (texts : Fields) (lists : KeptLists) (rows : List Fields) : Type 0 where
   pub within : All (IsWithin texts) lists.entries
   pub whole : lists.brought ≤ MOST_NAMES → map (named texts) lists.entries ≡ entries_of rows

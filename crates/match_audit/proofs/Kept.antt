@@ -66,7 +66,6 @@ HasNoRepeats-permutation xs ys p h = no_repeats_from_count ys (λ x.
     let same : count_of x ys ≡ count_of x xs = count_of-sum x ys ∙ sum_by-IsPermutation (λ y. cond (eqb y x) 1 0) xs ys p ∙ sym (count_of-sum x xs) in
     let few = count_from_no_repeats xs h x in omega arith)
 
--- items without repeats, once sorted, rise strictly
 pub IsStrictlyIncreasing-sorted : (xs ys : List ℕ) → HasNoRepeats xs → IsPermutation xs ys → IsSorted nat_cmp ys → IsStrictlyIncreasing ys
 IsStrictlyIncreasing-sorted xs ys h p up k l =
     let rises = IsNonDecreasingBy-from_sort (λ (n : ℕ). n) ys up k (k + 1) 0 (omega arith) l in

@@ -39,7 +39,7 @@ fn is_acceptable(inst: &Instance, resident: ResidentNo, programme: ProgrammeNo) 
     requires { IsResident inst.now resident }
     ensures { IsTrue result ↔ Acceptable inst.now resident programme }
 {
-    // Only the proof needs this call: by its clause, if a resident ranks a programme, the programme ranks the
+    // For the proof alone: by its clause, if a resident ranks a programme, the programme ranks the
     // resident.
     let _residents = inst.residents();
     inst.rank_at_resident(resident, programme).is_some()

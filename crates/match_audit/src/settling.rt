@@ -24,7 +24,7 @@ pub fn settle(alloc: Global, inst: &Instance) -> Result<Assignment, AuditFault>
     ensures settled { IfOk result (IsSettled inst.now) }
     ensures memory { IfErr result (λ fault. fault ≡ AuditFault.Memory) }
 {
-    // Only the proof needs this call: a closed legal list of events leads to a stable and settled assignment.
+    // For the proof alone: a closed legal list of events leads to a stable and settled assignment.
     law_settled();
     let Ok(mut core) = Core::new(alloc, inst, Capacity::Full) else {
         return Err(AuditFault::Memory);
@@ -60,7 +60,7 @@ pub fn is_result(alloc: Global, inst: &Instance, sheet: &Assignment) -> Result<b
     ensures exact { IfOk result (λ yes. IsTrue yes ↔ IsSettled inst.now sheet.now) }
     ensures memory { IfErr result (λ fault. fault ≡ AuditFault.Memory) }
 {
-    // Only the proof needs this call: an instance has only one settled assignment.
+    // For the proof alone: an instance has only one settled assignment.
     law_one_settled();
     match first_unlike_result(alloc, inst, sheet) {
         Ok(None) => Ok(true),

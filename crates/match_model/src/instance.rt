@@ -40,7 +40,7 @@ impl Model for Instance {
     } };
 }
 
-// One function drops the whole instance. So a caller that drops an instance need not prove anything about its parts.
+// One function drops the whole instance: callers prove nothing about its parts.
 impl Drop for Instance {
     fn drop(self) {
         let Instance {

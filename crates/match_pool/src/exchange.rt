@@ -53,7 +53,7 @@ pub(crate) enum Entry {
     Gone,
 }
 
-// One function drops the whole exchange. So a caller that drops an exchange need not prove anything about its parts.
+// One function drops the whole exchange: callers prove nothing about its parts.
 impl<J: ExchangeIdentity, M: Mailboxes> Drop for Exchange<J, M> {
     fn drop(self) {
         let Exchange {

@@ -39,7 +39,7 @@ pub fn why(
     ensures full { IsStable listed.now.instance sheet.now
         → Wants listed.now.instance sheet.now resident programme → TellsFull result }
 {
-    // Only the proof needs this call: by its clause the instance was made from the lists.
+    // For the proof alone: the instance was made from the lists.
     let _inst = listed.instance();
     first_reason(listed, sheet, taken, resident, programme)
 }

@@ -51,8 +51,7 @@ fn is_told(outcome: &Outcome, counts: &[u64]) -> bool {
     outcome.journal.len() as u64 == sum && outcome.who.len() == outcome.journal.len()
 }
 
-// Whether a run ended as it should whose gate stops it at the call of `pass` with this number and
-// at each later call.
+// Whether a run ended as it should whose gate stops it from the call of `pass` with this number on.
 fn is_stopped_from(outcome: &Outcome, gate: &StopsFrom, first_pass: u64, workers: usize) -> bool {
     let counts = [0, 1, 2, 3, 4, 5, 6, 7].map(|worker| gate.count(worker));
     let receipts = receipts_of(&outcome.journal);
@@ -69,8 +68,8 @@ fn is_stopped_from(outcome: &Outcome, gate: &StopsFrom, first_pass: u64, workers
         && is_told(outcome, &counts)
 }
 
-// How a run ended whose gate stops it at the call of `pass` with this number and at each later call; none if it did
-// not end as it should.
+// How a run ended whose gate stops it from the call of `pass` with this number on; none if it did not end as it
+// should.
 fn stopped_from<R: Threads + Wait + Sync + Send + Copy>(
     rt: R,
     alloc: Global,

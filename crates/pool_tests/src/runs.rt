@@ -201,8 +201,7 @@ fn is_seen(outcome: &Outcome, held: &Held) -> bool {
         && outcome.who.len() == outcome.journal.len()
 }
 
-// How many events a run has; none unless its gate kept a worker waiting and the result is as it
-// should be.
+// How many events a run has; none unless its gate kept a worker waiting and the result is right.
 fn seen<G: Gate + Sync, R: Threads + Wait + Sync + Send + Copy>(
     rt: R,
     alloc: Global,

@@ -184,8 +184,8 @@ fn is_its_journal<M: Mailboxes>(
     )
 }
 
-// Whether a run by two workers ends as it should whose gate stops it at the call of `pass` with this
-// number and at each later call.
+// Whether a run by two workers ends as it should whose gate stops it from the call of `pass` with
+// this number on.
 fn stops_well<R: Threads + Wait + Sync + Send + Copy>(
     rt: R,
     alloc: Global,

@@ -60,8 +60,8 @@ fn push_round(
     Ok(())
 }
 
-// Lengths of steps. With the first length of each pair a walk round a circle of forty places reaches all of
-// them, and with the second length a walk round twelve places.
+// Lengths of steps: with the first of each pair a walk reaches all places of a circle of forty, and with
+// the second all of a circle of twelve.
 const STEPS: [(u32, u32); 4] = [(3, 1), (7, 5), (11, 7), (13, 11)];
 
 // Adds the quota and the list of programme `p` of the docket `hundreds`.

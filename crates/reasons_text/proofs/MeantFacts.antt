@@ -13,7 +13,6 @@ use Rattle.reasons_text.specs.declared.side.Side.{Side}
 pub meant_none : (test : ℕ → Bool) → IsMeantBelow test 0 Nobody
 meant_none test k h = absurd (omega (arith, h))
 
--- a number below n + 1 is below n, or it is n
 next_or : (k n : ℕ) → k < n + 1 → (k < n) ⊎ (k ≡ n)
 next_or k n h = elim (cases_lt k n) [
   | inl below ↦ inl below

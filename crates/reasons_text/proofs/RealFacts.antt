@@ -173,7 +173,6 @@ has_fault d rows k r key real fault within here h at =
     ap (real_fault_from d (unnamed d) 0) (rows_split rows k r within here)
     ∙ real_fault_next d (unnamed d) key (take k (map fields_of rows)) (drop (k + 1) (map fields_of rows)) (fields_of r) fault h.clear h.key_is (rw place at)
 
--- a mapped option is none exactly if the option is none
 pub is_none_too : {A B : Type 0} (f : A → B) (o : Option A) → is_none (option_map f o) ≡ is_none o
 is_none_too f None = refl
 is_none_too f (Some x) = refl

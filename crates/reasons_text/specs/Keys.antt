@@ -78,8 +78,8 @@ side_fault d side names place row =
     else if not (is_utf8 (field row 2) && is_utf8 (sign_in row)) then Some (BadKey place)
     else None
 
--- the fault of the next row of a key whose earlier rows gave these names; a row of no side has a
--- fault unless it is blank
+-- the fault of a key's next row after rows that gave these names; a row of no side has a fault
+-- unless it is blank
 abbrev pub fault_by_side : Contents → KeyNames → ℕ → Fields → Option Side → Option WhyFault
 fault_by_side d key place row None = if is_blank row then None else Some (BadKey place)
 fault_by_side d key place row (Some Programmes) = side_fault d Programmes key.programmes place row

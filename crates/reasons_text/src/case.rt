@@ -43,7 +43,7 @@ impl Model for Case {
         IsCase (case_of c.docket (unwrap_or c.docket.sheet []) c.lists c.takens.items) };
 }
 
-// One function drops the whole case. So a caller that drops a case need not prove anything about its parts.
+// One function drops the whole case: callers prove nothing about its parts.
 impl Drop for Case {
     fn drop(self) {
         let Case {
@@ -117,7 +117,7 @@ fn answers_from(
     ensures record { IfOk result (λ answers.
         AreOfRecord docket.now lists.now resident answers.programmes.items) }
 {
-    // Only the proof needs this call: by its clause the docket has a name for each member, and its sheet names only
+    // For the proof alone: the docket has a name for each member, and its sheet names only
     // members.
     let _inst = docket.instance();
     let mut programmes = Vec::new(alloc);
@@ -255,7 +255,7 @@ impl Case {
         requires { IsResident self.now.docket.instance resident }
         ensures { result ≡ programme_of self.now.sheet resident }
     {
-        // Only the proof needs this call: by its clause the sheet has an entry for each resident.
+        // For the proof alone: the sheet has an entry for each resident.
         let _inst = self.docket.instance();
         self.sheet().get(resident)
     }

@@ -215,9 +215,9 @@ impl RealNames {
         })
     }
 
-    /// The real names in a key's rows, which are read as `residency-why` reads keys. It is a fault if a row is bad,
-    /// or if a name or an ID has a hidden character or more than 10,000 bytes. Names are hashed with keys that the
-    /// runtime draws.
+    /// The real names in a key's rows, as `residency-why` reads keys. It is a fault if a row is bad, or if a name
+    /// or an ID has a hidden character or more than 10,000 bytes. Names are hashed with keys that the runtime
+    /// draws.
     pub fn read<H: RandomSource>(
         rt: &H,
         alloc: Global,

@@ -48,8 +48,6 @@ pub last_next : (list names : Cells) (k : ℕ) → last_within list names (k + 1
 unfolding last_within
 last_next list names k = let more : k + 1 ≡ suc k = omega arith in rw more refl
 
--- the items that f makes of the numbers below n, followed by the items that it makes of n, are
--- those of the numbers below n + 1
 pub pairs_next : {A : Type 0} (f : ℕ → List A) (old xs ys : List A) (n : ℕ) → xs ≡ old ++ flat_map f (range_with_len 0 n) → ys ≡ xs ++ f n
     → ys ≡ old ++ flat_map f (range_with_len 0 (n + 1))
 pairs_next f old xs ys n before added =

@@ -68,7 +68,6 @@ grows_at f a b c xs k d within h n = grows_item f a b c xs k (get_or xs k d) wit
 pub grown_all : {A : Type 0} (f : A → List ℕ) (a b : Vec ℕ) (xs : List A) (k : ℕ) → length xs ≤ k → Grows a b (flat_map f (take k xs)) → Grows a b (flat_map f xs)
 grown_all f a b xs k past h = rw (take_all k xs past) at h
 
--- the mapped first k + 1 items are the mapped first k items, followed by f of item k
 pub map_next : {A B : Type 0} (f : A → B) (xs : List A) (k : ℕ) (d : A) → k < length xs → map f (take (k + 1) xs) ≡ map f (take k xs) ++ f (get_or xs k d) ∷ []
 map_next f xs k d within = ap (map f) (take_more xs k (get_or xs k d) within ∙ ap (λ x. take k xs ++ x ∷ []) (get_or_default xs k (get_or xs k d) d within)) ∙ map_push f (take k xs) (get_or xs k d)
 

@@ -64,8 +64,8 @@ fn digests_of(alloc: Global, fields: &[&[u8]]) -> Result<Option<Vec<[u8; 32]>>, 
     Ok(Some(digests))
 }
 
-// Why the leaf with this text doesn't open this root with the salt and the path in these fields, or
-// none if it does.
+// Why these fields, a salt and a path, don't open this root from the leaf with this text; none if
+// they do.
 #[tactic(auto, unfolding(crate::specs::Faults::opening_wrong))]
 fn opening_wrong(
     alloc: Global,

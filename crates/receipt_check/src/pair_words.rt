@@ -134,7 +134,7 @@ fn put_listed(text: &mut Vec<u8>, resident: &Side, programme: &Side) -> Result<(
     put_place(text, programme.place(one))
 }
 
-// Adds the difference that only one of the two receipts says that the programme lists the resident.
+// Adds the difference that only one receipt says that the programme lists the resident.
 fn put_unranked(
     text: &mut Vec<u8>,
     fields: &[&[u8]],
@@ -153,7 +153,7 @@ fn put_unranked(
     put_all(text, &[other, b" does not list ", one])
 }
 
-// Adds the difference that only one of the two receipts says that the programme has the resident.
+// Adds the difference that only one receipt says that the programme has the resident.
 fn put_matched(
     text: &mut Vec<u8>,
     fields: &[&[u8]],

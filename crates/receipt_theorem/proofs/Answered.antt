@@ -25,12 +25,10 @@ use Rattle.receipt_theorem.proofs.Reasons.{no_number, own_place}
 
 -- Tests.
 
--- two tests are equal if it isn't true that exactly one of them is true
 same_test : (a b : Bool) → is_other a b ≡ false → a ≡ b
 same_test true b h = sym (not-false b h)
 same_test false b h = sym h
 
--- an option that passes the test for the number n has this number
 pub number_written : (o : Option ℕ) (n : ℕ) → is_number o n ≡ true → o ≡ Some n
 number_written None n h = cc h
 number_written (Some m) n h = ap Some (eqb-true m n h)
@@ -195,8 +193,8 @@ module _ (inst : Instance) (mine theirs members : List ℕ) (r p : ℕ) (a b : R
     | inr z ↦ full z
   ]
 
-  -- if the answer is possible after the resident's own programme, some reason that is possible there agrees
-  -- with the two receipts
+  -- for an answer possible after the resident's own programme, some reason possible there agrees with the
+  -- two receipts
   past : is_later fields ≡ true → Reason IsPast
   past e = elim (or_cases (is_bare (codes "better") fields || is_bare (codes "unranked") fields) (is_bare (codes "withdrawn") fields) e) [
     | inl bare ↦ elim (or_cases (is_bare (codes "better") fields) (is_bare (codes "unranked") fields) bare) [

@@ -79,7 +79,6 @@ module _ (n : ℕ) (name : ℕ → List ℕ) (are : AreNamesOf n name) where
             let there = get_or_from_slice_get (map name list) i text [] (number_found (map name list) text i e) in
             (IsListed-get_or list i 0 l, sym (get_or-map name list i 0 [] l) ∙ there)
 
-    -- numbers that are all on the list are below n
     pub among : (xs : List ℕ) → ((x : ℕ) → IsListed xs x → IsListed list x) → Below n xs
     among xs on k d l = below_of n list is (get_or xs k d) (on (get_or xs k d) (IsListed-get_or xs k d l))
 

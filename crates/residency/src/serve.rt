@@ -96,7 +96,7 @@ where
 {
     law_one_settled();
     let inst = docket.instance();
-    // Only the proof needs this call: by its clause the rankings of an instance are mutual and within the limits.
+    // For the proof alone: the rankings of an instance are mutual and within the limits.
     let _instance = inst.residents();
     let done = match run(rt, alloc, inst, options.capacity, options.workers, gate) {
         Ok(done) => done,

@@ -47,7 +47,6 @@ item_there [] k m within e = absurd (omega (arith, within))
 item_there (x ∷ members) zero m within e = e
 item_there (x ∷ members) (suc k) m within e = item_there members k m (omega (arith, within)) e
 
--- if P holds for every list that the option may have, P holds for the list that it has
 pub if_some : (o : Option (List ℕ)) (P : List ℕ → Type 0) → ((list : List ℕ) → o ≡ Some list → P list) → IfSome o P
 if_some None P h = tt
 if_some (Some list) P h = h list refl

@@ -102,8 +102,8 @@ without_option c k (Some s) rest other l w = λ r more e lead.
     let both : c ∷ [] ≡ k ∷ [] = sym lead ∙ ap (λ (x : Fields). field x 0) (sym same) ∙ l s refl in
     other (cc both)
 
--- take two equal lists of rows, each of which may begin with a record of this letter and goes on
--- with rows of other letters: their records are equal, and so are their other rows
+-- if two equal lists of rows may each begin with a record of this letter and have no other such
+-- row, their records and their other rows are equal
 option_told : (c : ℕ) (o o' : Option Fields) (rest rest' : List Fields) → Leads c o → Leads c o' → Without c rest → Without c rest'
     → option_rows o ++ rest ≡ option_rows o' ++ rest' → (o ≡ o') × (rest ≡ rest')
 unfolding option_rows Leads Without
@@ -271,7 +271,6 @@ one_resident d d' draft draft' real real' r e =
     let tail = tail_told g g' (codes "R") (codes "R") n n' m m' same.1 in
     record { name = cc same.0; list = cc same.0; withdrawn = tail.0; real_name = tail.1 }
 
--- if two equal lists are cut after the same number of items, their parts are equal
 cut_alike : {A : Type 0} (xs xs' ys ys' : List A) → length xs ≡ length xs' → xs ++ ys ≡ xs' ++ ys' → (xs ≡ xs') × (ys ≡ ys')
 cut_alike [] [] ys ys' l e = (refl, e)
 cut_alike [] (x ∷ xs') ys ys' l e = absurd (omega arith)

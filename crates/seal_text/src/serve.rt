@@ -253,7 +253,7 @@ fn full_text<H: RandomSource>(
         Ok(read) => read,
         Err(fault) => return Err(SealFault::Files(fault)),
     };
-    // Only the proof needs this call: by its clause the docket is whole.
+    // For the proof alone: the docket is whole.
     let _inst = case.docket().instance();
     text_told(rt, alloc, wanted, &case, &given_lists, key, secret)
 }

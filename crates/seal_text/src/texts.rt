@@ -52,7 +52,7 @@ fn push_residents(
     requires list { list_all (λ r. nat_lt r (length docket.now.residents)) list.now ≡ true }
     ensures { OnOk result (Extends row.old row.new (map (resident_name docket.now) list.now)) }
 {
-    // Only the proof needs this call: by its clause the docket is whole.
+    // For the proof alone: the docket is whole.
     let _inst = docket.instance();
     for k in 0..list.len() {
         push_field(row, docket.resident_name(list[k]).as_bytes())?;
@@ -73,7 +73,7 @@ fn push_choices(
     ensures { OnOk result (Extends row.old row.new
         (map (programme_name docket.now) (list_at lists.now.resident_lists resident))) }
 {
-    // Only the proof needs this call: by its clause the docket is whole.
+    // For the proof alone: the docket is whole.
     let _inst = docket.instance();
     for k in 0..lists.listed_by_resident(resident) {
         let Some(programme) = lists.choice(resident, k) else {

@@ -167,8 +167,8 @@ impl AllButOne {
         }
     }
 
-    // Whether the worker in this place is released now: all workers that the gate keeps waiting have come, the
-    // workers before it were released, and all events that are possible without it are entered.
+    // Whether the worker in this place is released now: all workers that the gate keeps waiting have come,
+    // those before it were released, and all events possible without it are entered.
     fn is_turn_of(&self, place: u64) -> bool {
         let entered = self.counts.of_all();
         let blocked = self.blocked.load(Ordering::SeqCst);
