@@ -20,8 +20,8 @@ use Rattle.audit_files.specs.declared.serve.Verdict.TheVariants.{Good, Bad}
 abbrev pub IsDocketIn : List ℕ → List ℕ → List ℕ → Contents → Type 0
 IsDocketIn docket sheet journal d = IsInFiles Standard docket sheet journal d
 
--- Why three files are no docket: the first fault of their records, with the file of that record. Or memory ran
--- out, or the machine had no random bytes for the reader.
+-- Why three files are no docket: the first fault of their records, with its file. Or memory ran out, or the
+-- machine had no random bytes.
 pub record IsReadingFault (docket sheet journal : List ℕ) (fault : FilesFault) : Type 0 where
   pub first : FileFault
   pub is_first : IsFaultOfFiles (fault_of_files Standard docket sheet journal) first

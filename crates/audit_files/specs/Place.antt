@@ -7,7 +7,7 @@ use Rattle.docket.specs.declared.fault.DocketFault.TheVariants as docket
 use Rattle.audit_files.specs.declared.fault.FilesFault.{FilesFault}
 use Rattle.audit_files.specs.declared.fault.FilesFault.TheVariants as files
 
--- a fault of records that were read from this file; out of memory is no fault of a file
+-- a fault of this file's records; out of memory is no file's fault
 abbrev pub told_in : Part → RecordsFault → FilesFault
 told_in file (records.Docket docket.Memory) = files.Memory
 told_in file fault = files.Docket file fault

@@ -81,7 +81,6 @@ few_among (k ∷ ks) texts d =
     let rest = few_among ks texts d in
     omega (arith, split, one, rest)
 
--- if the second of two tests is passed, one of the two is
 pub or_right : (a b : Bool) → b ≡ true → (a || b) ≡ true
 or_right true b e = refl
 or_right false b e = e

@@ -344,7 +344,6 @@ pub none_is : {A : Type 0} (o : Option A) → is_some o ≡ false → o ≡ None
 none_is None e = refl
 none_is (Some x) e = absurd (cc e)
 
--- the first of two options or else the second is the second, if the first is none
 pub option_or-first : {A : Type 0} (o p : Option A) → is_some o ≡ false → p ≡ option_or o p
 option_or-first None p e = refl
 option_or-first (Some x) p e = cc e

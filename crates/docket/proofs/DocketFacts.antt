@@ -93,7 +93,6 @@ pub resident_name-is : (d : Contents) (r : ℕ) (name : List ℕ) → slice_get 
 unfolding resident_name
 resident_name-is d r name h = get_or_from_slice_get d.residents r name [] h
 
--- two contents with the same parts are equal
 pub same_contents : {a b : Contents} → a.programmes ≡ b.programmes → a.residents ≡ b.residents → a.instance ≡ b.instance → a.sheet ≡ b.sheet → a.journal ≡ b.journal → a ≡ b
 same_contents p r n s j = λ i. record { programmes = p i; residents = r i; instance = n i; sheet = s i; journal = j i }
 

@@ -115,7 +115,6 @@ resident_list_fault b rows k i items sound few lt kind at h is known =
     rw (is, h.resident_lists, h.quotas, length-quotas_of rows)
     (list_fault-row RESIDENT_LIST (residents_of rows) (programmes_of rows) (take k rows) (row_at rows k) i at free known)
 
--- two drafts with the same parts are equal
 pub same_draft : {b c : Draft} → b.limits ≡ c.limits → b.quotas ≡ c.quotas → b.programme_lists ≡ c.programme_lists → b.resident_lists ≡ c.resident_lists
     → b.programmes_withdrawn ≡ c.programmes_withdrawn → b.residents_withdrawn ≡ c.residents_withdrawn → b ≡ c
 same_draft l q p r pg rg = λ i. record { limits = l i; quotas = q i; programme_lists = p i; resident_lists = r i; programmes_withdrawn = pg i; residents_withdrawn = rg i }

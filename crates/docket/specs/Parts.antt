@@ -98,8 +98,8 @@ pub record AreEnds (docket sheet : List ℕ) (ends : Ends) : Type 0 where
   pub docket_end : ends.docket ≡ length (rows_of docket)
   pub sheet_end : ends.sheet ≡ length (rows_of docket ++ rows_of sheet)
 
--- the first fault of three files, with its file: the fault that the first pass finds, else the fault that a later pass
--- finds in the records of all files
+-- the first fault of three files, with its file: that of the first pass, else that of a later pass over the records of
+-- all files
 abbrev pub fault_of_files : Limits → List ℕ → List ℕ → List ℕ → Option FileFault
 fault_of_files limits docket sheet journal =
     option_or (files_fault limits docket sheet journal)

@@ -84,7 +84,7 @@ module _ {T : Type 0} where
   abbrev pub gave_answer : ResidentDesk T → ResidentDesk T
   gave_answer desk = record desk { due = drop 1 desk.due }
 
-  -- the offers taken and decided: all offers taken, without the last one if it is undecided
+  -- the offers taken and decided: all taken offers, except an undecided last one
   abbrev pub decided : ResidentDesk T → List ℕ
   decided desk = if desk.undecided then without_last desk.taken else desk.taken
 

@@ -33,7 +33,7 @@ pub record AnswersFilesWithin (limits : Limits) (docket sheet : List ℕ) (key :
 abbrev pub AnswersFiles : List ℕ → List ℕ → Option (List ℕ) → Asked → Bool → List ℕ → Type 0
 AnswersFiles docket sheet key question without_ranks text = AnswersFilesWithin Standard docket sheet key question without_ranks text
 
--- a fault of records that were read from this file; out of memory is no fault of a file
+-- a fault of this file's records; out of memory is no file's fault
 abbrev pub told_in : Part → RecordsFault → WhyFault
 told_in file (rf.Docket df.Memory) = Docket df.Memory
 told_in file fault = Records file fault

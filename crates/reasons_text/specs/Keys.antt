@@ -66,7 +66,7 @@ abbrev pub is_free : SideNames → Option ℕ → Bool
 is_free side None = true
 is_free side (Some n) = is_none (text_at side.names n)
 
--- the names of a side after those of one more row were added, in the form in which they are shown
+-- the names of a side, as they are shown, with the names of one more row
 abbrev pub with_row : Contents → Side → Fields → SideNames → SideNames
 with_row d side row names = noted names (member_of d side row) (shown_text (field row 2)) (shown_text (sign_in row))
 

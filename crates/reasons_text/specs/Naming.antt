@@ -135,7 +135,7 @@ also_of Nobody n = One n
 also_of (One r) n = Several
 also_of Several n = Several
 
--- whom the text means, among the docket's members and the members whom only the key has
+-- whom the text means among the docket's members and the key's other members
 pub record IsMeant (names : Naming) (side : Side) (text : List ℕ) (meant : Meant) : Type 0 where
   pub named : ℕ
   pub all : (k : ℕ) → means names side text k ≡ true → k < named

@@ -127,8 +127,7 @@ AreReal d (Some bytes) real = IsRealOf d bytes real
 abbrev pub real_in : Option Row → Option Fields
 real_in kept = option_map fields_of kept
 
--- the real names after a row with these fields for this member: added only if the member had no
--- real name before
+-- the real names, with those of a row with these fields if the member had none before
 abbrev pub with_first : List (Option Fields) → Option ℕ → Fields → List (Option Fields)
 with_first names None fields = names
 with_first names (Some m) fields = if is_none (slice_index_or names m None) then slice_set names m (Some fields) else names

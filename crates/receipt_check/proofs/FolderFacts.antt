@@ -151,8 +151,6 @@ with_resident_within rs p place (Some r) within is = by (is_declared (receipt_at
     by true = All-nil (ArePlaces (length rs))
     by false = All-cons (ArePlaces (length rs)) (r, p) [] (record { first = file_below Resident rs place r is; second = within }) (All-nil (ArePlaces (length rs)))
 
--- if all items that f makes of each number of a range have a property, all items that it makes of
--- the whole range have it
 all_made : {A : Type 0} (P : A → Type 0) (f : ℕ → List A) (a n : ℕ) → ((k : ℕ) → k < a + n → All P (f k)) → All P (flat_map f (range_with_len a n))
 all_made P f a zero each = All-nil P
 all_made P f a (suc n) each =

@@ -142,8 +142,8 @@ is_stable count rs = is_whole count rs && (length (differing_pairs rs) == 0)
 abbrev pub two_numbers : ℕ → List ℕ → ℕ → List ℕ → List ℕ
 two_numbers n words m end = decimal n ++ (words ++ (decimal m ++ end))
 
--- how many members have a receipt in the folder, of how many members; how many pairs were compared;
--- and how many pairs differ
+-- how many of all members have a receipt in the folder, how many pairs were compared, and how many
+-- differ
 abbrev pub counts_text : ℕ → ℕ → ℕ → ℕ → List ℕ
 counts_text there count compared differing =
     two_numbers there (codes " of ") count (codes " members are there, and ")

@@ -174,8 +174,8 @@ lists_text r = lines (lists_rows r)
 unfoldable pub result_text : Receipt → List ℕ
 result_text r = lines (result_rows r)
 
--- the two rows about a tree that stand before the text of a leaf: one with the number of members and the published
--- root, one with the member's number, the salt and the path
+-- the two rows before a leaf's text: one with the number of members and the published root, one with the member's
+-- number, the salt and the path
 abbrev pub part_rows : List ℕ → List ℕ → List ℕ → List ℕ → Cells → List Cells
 part_rows word root count index opening =
     (word ∷ count ∷ encode_lower root ∷ []) ∷ (codes "opens" ∷ word ∷ index ∷ opening) ∷ []

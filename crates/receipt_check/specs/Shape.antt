@@ -64,8 +64,8 @@ unfoldable pub shape_fault : List ℕ → Option (List ℕ) → Receipt → List
 shape_fault lists_root result_root r rows text =
     option_map (λ k. at k (shape_wrong lists_root result_root r rows k)) (first_unlike text (receipt_text lists_root result_root r))
 
--- whether this fault shows that the file isn't as it was given: a program changed it, a part is missing, or it is of an
--- earlier form; any other fault shows that the receipt is wrong
+-- whether this fault shows that the file isn't as it was given: changed by a program, without a part, or of an earlier
+-- form; any other fault shows that the receipt is wrong
 abbrev pub is_changed : Wrong → Bool
 is_changed wrong.Header = true
 is_changed wrong.Age = true
