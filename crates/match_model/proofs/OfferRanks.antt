@@ -36,7 +36,7 @@ module _ (inst : Instance) (ranks : List (List ℕ)) (h : AreOfferRanks inst.pro
       ap (λ (row : List ℕ). get_or row k 0) (h.row p within) ∙ get_or-map (λ s. place (list_of_resident inst s) p) (list_of_programme inst p) k 0 0 before_end
       ∙ ap (λ (s : ℕ). place (list_of_resident inst s) p) at
 
-  -- p's rank on the list of the resident at place k is the stored rank
+  -- p's rank on the list of the k-th resident of p's list is the stored rank
   pub ranked_here : IsInstance inst → rank (list_of_resident inst r) p ≡ Some (get_or (list_at ranks p) k 0)
   ranked_here is =
       let listed = is_listed_at (list_of_programme inst p) r k before_end at in

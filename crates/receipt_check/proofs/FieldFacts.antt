@@ -119,8 +119,8 @@ digest_some None more found h = cc h
 digest_some (Some digest) None found h = cc h
 digest_some (Some digest) (Some rest) found h = (digest, rest, refl, refl)
 
--- if each character of a text is allowed between the commas of a real name's row, no character is a
--- mark that isn't allowed there
+-- a mark that may not stand between the commas of a real name's row is no character of a text that
+-- may
 none : (mark : ℕ) → is_part mark ≡ false → (cs : List ℕ) → list_all is_part cs ≡ true → NonePass (λ c. c == mark) cs
 none mark fails [] h = tt
 none mark fails (c ∷ cs) h =

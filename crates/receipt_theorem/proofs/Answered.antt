@@ -106,7 +106,7 @@ module _ (inst : Instance) (mine theirs members : List ℕ) (r p : ℕ) (a b : R
         λ f. rw f at z.1,
       )
 
-  -- if the answer's word is this word, the receipts agree about this word
+  -- if the answer has this word, the two receipts agree about the word
   told : (word : List ℕ) → text_at fields 0 ≡ word → Told word
   told word e = subst (λ (w : List ℕ). Told w) e tests.0
 
@@ -193,8 +193,8 @@ module _ (inst : Instance) (mine theirs members : List ℕ) (r p : ℕ) (a b : R
     | inr z ↦ full z
   ]
 
-  -- for an answer possible after the resident's own programme, some reason possible there agrees with the
-  -- two receipts
+  -- if the answer can follow the resident's own programme, some reason that can also follow it agrees
+  -- with the receipts
   past : is_later fields ≡ true → Reason IsPast
   past e = elim (or_cases (is_bare (codes "better") fields || is_bare (codes "unranked") fields) (is_bare (codes "withdrawn") fields) e) [
     | inl bare ↦ elim (or_cases (is_bare (codes "better") fields) (is_bare (codes "unranked") fields) bare) [

@@ -1,4 +1,5 @@
--- Names on lists stand for numbers: where a name stands is the rank of its number, and the last place of names is that of numbers.
+-- Lists of names stand for lists of numbers: a name's place is the rank of its number, also for the last place of
+-- several names.
 use Rattle.std.proofs.Common.{◌≡◌, ℕ, zero, suc, ◌+◌, ◌<◌, ◌≤◌, Bool, true, false, List, [], ◌∷◌, ◌++◌, length, map, take, get_or, Option, Some, None, is_some, refl, sym, ap, ◌∙◌, arith, subst, inl, inr, take_all}
 use Rattle.std.specs.Prelude.{if◌then◌else◌, not, unwrap_or}
 use Rattle.std.proofs.lemmas.Bool.{cases_Bool, cases_lt, le-ltb, lt-ltb}

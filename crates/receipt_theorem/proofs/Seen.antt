@@ -151,7 +151,7 @@ whole_piece piece free h =
     let same = encodes-chars piece h.utf8 in
     rw (is_utf8-from_IsUtf8 piece h.utf8) (no_comma (chars piece) (subst (All NoComma) (sym same) free) h.shown)
 
--- each piece between the commas of such a text can stand in a row of a receipt
+-- if `IsSeen` holds for a text, each of its pieces between commas can stand in a row of a receipt
 pub cut_pieces : (piece text : List ℕ) → All NoComma piece → IsSeen (piece ++ text) → list_all is_piece (cut piece text) ≡ true
 cut_pieces piece [] free h = rw (whole_piece piece free (subst IsSeen (append-nil piece) h)) refl
 cut_pieces piece (b ∷ rest) free h = by (b == 44) refl (cut_pieces [] rest (All-nil NoComma)) (cut_pieces (piece ++ b ∷ []) rest)
