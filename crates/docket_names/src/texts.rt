@@ -43,7 +43,7 @@ impl Model for Texts {
         × AreGuesses a.seen.keys a.guesses.items };
 }
 
-// One function drops all texts. So a caller that drops texts need not prove anything about their parts.
+// One function drops all texts: callers prove nothing about their parts.
 impl Drop for Texts {
     fn drop(self) {
         let Texts {
@@ -190,7 +190,7 @@ impl Texts {
         ensures number { IfSome result (λ n. slice_get self.new n ≡ Some text.now) }
         ensures named { is_some result ≡ true → words.is_name text.now ≡ true }
     {
-        // Only the proof needs this line: each text has the form of a name.
+        // For the proof alone: each text has the form of a name.
         let _seen = &self.seen;
         let number = self.guessed(text)?;
         self.note(number);

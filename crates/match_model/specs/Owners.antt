@@ -15,12 +15,12 @@ pub record AreOwners (count n : ℕ) (lists rows : List (List ℕ)) : Type 0 whe
   pub one_each : length rows ≡ count
   pub row : (x : ℕ) → x < count → list_at rows x ≡ owners_below n lists x
 
--- the item after this step if the test is true, else the item itself
+-- the item after the step if the test is true, else the item as it was
 abbrev pub stepped : {T : Type 0} → (T → T) → Bool → T → T
 stepped step true item = step item
 stepped step false item = item
 
--- an item takes one step if its position, from 0, stands in the list; every other item is unchanged
+-- `step` is applied to each item whose position, from 0, stands in the list; every other item is unchanged
 pub record AreStepped {T : Type 0} (none : T) (step : ℕ → T → T) (list : List ℕ) (before after : List T) : Type 0 where
   pub one_each : length after ≡ length before
   pub item : (x : ℕ) → x < length before → slice_index_or after x none ≡ stepped (step x) (is_listed list x) (slice_index_or before x none)

@@ -40,7 +40,7 @@ impl Model for Instance {
     } };
 }
 
-// One function drops the whole instance. So a caller that drops an instance need not prove anything about its parts.
+// One function drops the whole instance: callers prove nothing about its parts.
 impl Drop for Instance {
     fn drop(self) {
         let Instance {
@@ -204,8 +204,7 @@ impl Instance {
         }
     }
 
-    /// Returns what `rank_at_resident` returns, but looks at the guessed place of the list first. The resident is a
-    /// member.
+    /// The same as `rank_at_resident`, but the guessed place of the list is tried first. The resident is a member.
     #[inline(always)]
     pub fn rank_by_guess(
         &self,

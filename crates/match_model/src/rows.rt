@@ -30,7 +30,7 @@ impl<T> Model for Rows<T> {
     ghost invariant = { λ r. AreEnds 0 r.ends.items (length r.items.items) };
 }
 
-// One function drops all rows. So a caller that drops rows need not prove anything about their parts.
+// One function drops all rows: callers prove nothing about their parts.
 impl<T: Drop> Drop for Rows<T> {
     fn drop(self) {
         let Rows { items: _, ends: _ } = self;
