@@ -39,11 +39,11 @@ def need(holds, row, cause):
 def named(those, rows_of, on=None):
     """Each is a name of a docket, stands on the list, if it has to, and stands once."""
     seen = set()
-    for place, one in enumerate(those):
-        need(re.fullmatch("[A-Za-z0-9_.-]{1,32}", one), rows_of(place), "name")
-        need(on is None or one in on, rows_of(place), "not listed")
-        need(one not in seen, rows_of(place), "twice")
-        seen.add(one)
+    for place, name in enumerate(those):
+        need(re.fullmatch("[A-Za-z0-9_.-]{1,32}", name), rows_of(place), "name")
+        need(on is None or name in on, rows_of(place), "not listed")
+        need(name not in seen, rows_of(place), "twice")
+        seen.add(name)
 
 class Receipt:
     """What the rows of a file tell, whatever they are."""
@@ -66,9 +66,9 @@ class Receipt:
         name, quota = self.name, self.quota
         self.sealed = ([["Q", name, quota]] + [["P", name, *self.listed]] * has_list if self.side == "P" else [["R", name, *self.listed]]) + [
             ["W", self.side, name]] * self.is_gone + [["N", *self.real]] * bool(self.real)
-        self.placed = [["F", name, str(len(after)), quota]] + [["M", one, name] for one in self.members] if self.side == "P" else [
+        self.placed = [["F", name, str(len(after)), quota]] + [["M", member, name] for member in self.members] if self.side == "P" else [
             ["U", name] if self.own is None else ["M", name, self.own]] + [
-            [name, one, str(place + 1), *self.answers[place]] for place, one in enumerate(self.listed)]
+            [name, programme, str(place + 1), *self.answers[place]] for place, programme in enumerate(self.listed)]
 
     def rest(self, row, first):
         return self.rows[row][first:] if row < len(self.rows) else []
@@ -98,7 +98,7 @@ class Receipt:
     def opens(self, text, root, row):
         """The leaf with this text leads to the root, from the member's number and with the number of members, by the opening of this row."""
         digests = self.rest(row, 3)
-        need(digests and all(re.fullmatch("[0-9a-f]{64}", one) for one in digests), row, "opening row")
+        need(digests and all(re.fullmatch("[0-9a-f]{64}", digest) for digest in digests), row, "opening row")
         salt, *path = map(bytes.fromhex, digests)
         place, width, now = number(self.index), number(self.count), sha(b"\0", salt, text.encode("latin-1"))
         need(place < width, row, "opening")
@@ -115,7 +115,7 @@ class Receipt:
         found, text = re.fullmatch(f"({field})(?:,({field}))?", real), real.encode("latin-1").decode("utf-8", "replace")
         need(found and text.encode("utf-8").decode("latin-1") == real, row, "real name")
         need(not re.search("[\0-\x1f\x7f-\x9f\u061c\u200e\u200f\u2028-\u202e\u2066-\u2069]", text), row, "real name")
-        parts = [one[1:-1].replace('""', '"') if one[0] == '"' else one for one in found.groups() if one]
+        parts = [group[1:-1].replace('""', '"') if group[0] == '"' else group for group in found.groups() if group]
         return " (".join(parts).encode("latin-1").decode("utf-8") + ")" * (len(parts) - 1)
 
     def right(self, answer, choice, mine):
@@ -157,12 +157,12 @@ class Receipt:
             need(own is None or own in listed, end + 2, "not listed")
             told.append(f"The sealed result has you {'unmatched' if own is None else f'matched with {own}'}.")
             mine = len(listed) if own is None else listed.index(own)
-            for choice, (one, answer) in enumerate(zip(listed, self.answers)):
+            for choice, (programme, answer) in enumerate(zip(listed, self.answers)):
                 need(self.right(answer, choice, mine), end + 3 + choice, "full" if answer[:1] == ["full"] else "reason")
                 full = "" if answer[0] != "full" else f"it ranked you {ranked(answer[1])}" + (
                     ", and it has no places" if answer[3] == "0" else f". Its place went to a resident it ranked higher, {ranked(answer[2])}" if answer[3] == "1"
                     else f". Its {answer[3]} places went to residents it ranked higher, the last of them {ranked(answer[2])}")
-                told.append(f"{one}: {full or SAYS[answer[0]]}.")
+                told.append(f"{programme}: {full or SAYS[answer[0]]}.")
         need(of_lists in (None, self.count), 1, "members")
         need(of_result in (None, self.count), end, "members")
         return told
@@ -173,9 +173,9 @@ def together(r, p):
     if p.name not in r.listed:
         return not has, f"{p.name} has {r.name}, and {r.name} does not list {p.name}" if has else f"{r.name} does not list {p.name}"
     answer, rank, last, quota = r.answers[r.listed.index(p.name)]
-    places = {one: str(place) for place, one in enumerate(p.listed, 1)}
+    places = {resident: str(place) for place, resident in enumerate(p.listed, 1)}
     says, here, filled = f"{r.name}'s receipt says ", places.get(r.name, ""), str(len(p.members))
-    last_here = max((places[one] for one in p.members), key=int, default="")
+    last_here = max((places[member] for member in p.members), key=int, default="")
     if (answer == "withdrawn") != (gone is not None):
         return False, f"{says}{answer}, and {gone or 'neither'} is withdrawn"
     if not gone and (answer == "unranked") != (here == ""):

@@ -192,9 +192,9 @@ def _why_all(market: Market, data: bytes, timeout: float) -> Dict[Tuple[str, str
         if status != 0 or rows[0] != _WHY_COLUMNS.split(","):
             raise ValueError(rows[0])
         for resident, programme, choice, word, rank, last_rank, quota in rows[1:]:
-            one = Why(names.name("R", resident), names.name("P", programme), choice=int(choice), answer=word, rank=_number(rank),
+            reason = Why(names.name("R", resident), names.name("P", programme), choice=int(choice), answer=word, rank=_number(rank),
                       last_rank=_number(last_rank), quota=_number(quota))
-            told[one.resident, one.programme] = one
+            told[reason.resident, reason.programme] = reason
         if list(told) != [(resident, name) for resident, listed in market.resident_lists.items() for name in listed]:
             raise ValueError("choices")
     except (IndexError, KeyError, ValueError) as error:

@@ -23,7 +23,7 @@ def dictionary(what: str, value: Any) -> Dict[Any, Any]:
         given = as_dictionary(value)
     except NotRead as why:
         raise MarketFault([f"{what}: {why}"]) from None
-    read = {as_name(name): one for name, one in given.items()}
+    read = {as_name(name): item for name, item in given.items()}
     if len(read) < len(given):
         names = [as_name(name) for name in given]
         raise MarketFault([f"{what}: {told_name(name)} comes twice" for name in read if names.count(name) > 1])

@@ -111,7 +111,7 @@ def _pair(given: Any) -> Tuple[str, str]:
     both = (given, "") if isinstance(as_name(given), str) else as_list(given)
     if len(both) != 2:
         raise NotRead(f"a member is a name, or a pair of a name and an ID, and this has {len(both)} parts")
-    name, id_ = (wanted("a name or an ID is a text", str, as_name(one)) for one in both)
+    name, id_ = (wanted("a name or an ID is a text", str, as_name(text)) for text in both)
     return name, id_
 
 
@@ -157,7 +157,7 @@ class Names:
         """
         members: List[Member] = []
         for side, named in ((PROGRAMME, programmes), (RESIDENT, residents)):
-            pairs = [_pair(one) for one in as_members(named)]
+            pairs = [_pair(member) for member in as_members(named)]
             made = _made((name for name, _ in pairs), side.lower())
             members += [Member(side, docket_name, *pair) for docket_name, pair in zip(made, pairs)]
         return cls(members)
@@ -177,5 +177,5 @@ class Names:
 
     def members(self, side: Optional[str] = None) -> Iterator[Member]:
         """The members of a side, or of both, programmes first, in their order."""
-        for one in (PROGRAMME, RESIDENT) if side is None else (side,):
-            yield from self._members[one].values()
+        for this_side in (PROGRAMME, RESIDENT) if side is None else (side,):
+            yield from self._members[this_side].values()

@@ -22,22 +22,22 @@ def folded(name: str) -> str:
     return " ".join("".join(c if c.isalnum() else "" if unicodedata.combining(c) else " " for c in plain).split())
 
 
-def edits(one: str, other: str, most: int) -> int:
+def edits(text: str, other: str, most: int) -> int:
     """How many letters must be put in, taken out, changed or swapped with the next to make the other; `most` + 1 for more.
 
     >>> edits("south", "sout", 2), edits("jonh", "john", 2), edits("kwame", "fatima", 2)
     (1, 1, 3)
     """
     far = most + 1
-    if abs(len(one) - len(other)) > most:
+    if abs(len(text) - len(other)) > most:
         return far
     before: List[int] = []
     last = [min(j, far) for j in range(len(other) + 1)]
-    for i, c in enumerate(one, 1):
+    for i, c in enumerate(text, 1):
         row = [min(i, far)] + [far] * len(other)
         for j in range(max(1, i - most), min(len(other), i + most) + 1):
             cost = min(last[j] + 1, row[j - 1] + 1, last[j - 1] + (c != other[j - 1]))
-            if i > 1 and j > 1 and c == other[j - 2] and one[i - 2] == other[j - 1]:
+            if i > 1 and j > 1 and c == other[j - 2] and text[i - 2] == other[j - 1]:
                 cost = min(cost, before[j - 2] + 1)
             row[j] = min(cost, far)
         if min(row) > most:

@@ -36,11 +36,11 @@ def whole(value: Any) -> Optional[int]:
     (7, 7, None, None, None)
     """
     is_own = isinstance(value, (int, float)) or not hasattr(value, "item") or getattr(value, "ndim", 0) != 0
-    one = value if is_own else value.item()
-    if isinstance(one, float):
-        return int(one) if one.is_integer() else None
+    number = value if is_own else value.item()
+    if isinstance(number, float):
+        return int(number) if number.is_integer() else None
     try:
-        return None if isinstance(one, bool) else operator.index(one)
+        return None if isinstance(number, bool) else operator.index(number)
     except TypeError:
         return None
 
@@ -114,8 +114,8 @@ def as_dictionary(value: Any) -> Dict[Any, Any]:
     if not (hasattr(value, "index") and hasattr(value, "items")) or getattr(value, "ndim", 1) != 1:
         raise NotRead(f"{type(value).__name__} is no dictionary")
     found: Dict[Any, Any] = {}
-    for key, one in value.items():
+    for key, item in value.items():
         if key in found:
             raise NotRead(f"its index has {key!r} twice")
-        found[key] = one
+        found[key] = item
     return found

@@ -19,15 +19,15 @@ Row = Dict[str, object]
 def _html(said: str, rows: Sequence[Row]) -> str:
     """What is said of an answer, and a table of its first ten rows with how many more there are; nothing of it is markup."""
     head = "".join(f"<th>{escape(name.replace('_', ' '))}</th>" for name in (rows[0] if rows else ()))
-    body = "".join("<tr>" + "".join(f"<td>{_cell(one)}</td>" for one in row.values()) + "</tr>" for row in rows[:_MOST_ROWS])
+    body = "".join("<tr>" + "".join(f"<td>{_cell(cell)}</td>" for cell in row.values()) + "</tr>" for row in rows[:_MOST_ROWS])
     more = len(rows) - _MOST_ROWS
     after = f"<p>and {more:,} more</p>" if more > 0 else ""
     table = f"<table><thead><tr>{head}</tr></thead><tbody>{body}</tbody></table>" if rows else ""
     return f"<div><p>{escape(said)}</p>{table}{after}</div>"
 
 
-def _cell(one: object) -> str:
-    return "&ndash;" if one is None else escape(shown(str(one), 200))
+def _cell(cell: object) -> str:
+    return "&ndash;" if cell is None else escape(shown(str(cell), 200))
 
 
 @dataclass(frozen=True, repr=False)

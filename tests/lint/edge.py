@@ -44,7 +44,7 @@ def found_in(text: str) -> Iterator[str]:
         elif isinstance(node, ast.Attribute) and node.attr in STREAMS and isinstance(node.value, ast.Name) and node.value.id == "sys":
             yield node.attr
         elif isinstance(node, ast.ImportFrom) and node.module == "sys":
-            yield from (one.name for one in node.names if one.name in STREAMS)
+            yield from (name.name for name in node.names if name.name in STREAMS)
         elif isinstance(node, ast.Name) and node.id == "SystemExit":
             yield node.id
 
@@ -82,7 +82,7 @@ def unphrased_page(text: str) -> List[str]:
     script = re.sub(r"^ *//.*$", "", "".join(re.findall(r"<script>(.*?)</script>", text, re.S)), flags=re.M)
     texts = [one for one in re.findall(r'"[^"\n]*"|`[^`\n]*`', script) if SENTENCE.search(re.sub(r"\$\{[^}]*\}", "", one))]
     shown = re.sub(r"<(style|script)>.*?</\1>|<[^>]*>|@[A-Za-z-]+@", " ", text, flags=re.S)
-    return re.findall(r"[^\W\d_]+", shown) + [one for one in texts if one != '"use strict"']
+    return re.findall(r"[^\W\d_]+", shown) + [script_text for script_text in texts if script_text != '"use strict"']
 
 
 def faults_of(modules: Dict[str, str]) -> List[str]:
@@ -111,4 +111,4 @@ def planted() -> List[str]:
     whole = {"rosters.py": "\"\"\"Writes some tables.\"\"\"\nmade = f'<td class=\"n short\">{phrases.say(\"head.id\")}</td>'\n", "whole.py": "def exits(words):\n    return words.exit()\n", "command.py": plants["print.py"],
              "coded.py": "'It tells of --key.'\nOfficeError('folder.none', at=path, words=['--sheet', '--version'])\n"}
     unseen += unphrased_page('<style>p { color: red; }</style><p class="a b">@given@ 2</p><script>\n// What is shown.\nsay("no-places");\n</script>')
-    return unseen + [f"told, and nothing is wrong: {one}" for one in faults_of(whole)]
+    return unseen + [f"told, and nothing is wrong: {fault}" for fault in faults_of(whole)]

@@ -22,10 +22,10 @@ class Derived(NamedTuple):
 
     def members(self, programme: str) -> List[str]:
         """A programme's residents, in the order of its list."""
-        return [one for one in self.programme_lists[programme] if self.match.get(one) == programme]
+        return [programme_list for programme_list in self.programme_lists[programme] if self.match.get(programme_list) == programme]
 
     def ranked_back(self, resident: str, gone: Sequence[str] = ()) -> bool:
-        return any(resident in self.programme_lists[one] for one in self.resident_lists[resident] if one not in gone)
+        return any(resident in self.programme_lists[resident_list] for resident_list in self.resident_lists[resident] if resident_list not in gone)
 
 
 def tables(programmes: str, residents: str) -> Derived:
@@ -88,7 +88,7 @@ def became(given: Derived, resident: str, gone: Sequence[str] = ()) -> List[str]
             said.append("it had no places")
         else:
             # Such a programme is full of residents whom it ranks before this one, or the match is none.
-            held = [given.programme_lists[programme].index(one) for one in given.members(programme)]
+            held = [given.programme_lists[programme].index(member) for member in given.members(programme)]
             assert len(held) == given.places[programme] and max(held) < given.programme_lists[programme].index(resident)
             said.append("it filled all of its places with residents whom it ranks before you")
     return said

@@ -110,17 +110,17 @@ def wide() -> Pair:
         [["Programme", "Places"] + [f"Rank {rank}" for rank in range(1, most + 1)]],
         [["Applicant"] + [f"Rank {rank}" for rank in range(1, EACH + 1)]],
     )
-    pair.programmes += [[name, str(QUOTA)] + [person(one) for one in rankers(number)] for number, name in enumerate(PROGRAMMES)]
-    pair.residents += [[person(number)] + [PROGRAMMES[one] for one in ranked_by(number)] for number in range(RESIDENTS)]
+    pair.programmes += [[name, str(QUOTA)] + [person(ranker) for ranker in rankers(number)] for number, name in enumerate(PROGRAMMES)]
+    pair.residents += [[person(number)] + [PROGRAMMES[programme] for programme in ranked_by(number)] for number in range(RESIDENTS)]
     return pair
 
 
 def long() -> Pair:
     pair = Pair([["Programme", "Places", "Rank", "Applicant"]], [["Applicant", "Rank", "Programme"]])
     for number, name in enumerate(PROGRAMMES):
-        pair.programmes += [[name, str(QUOTA), str(rank), person(one)] for rank, one in enumerate(rankers(number), 1)]
+        pair.programmes += [[name, str(QUOTA), str(rank), person(resident)] for rank, resident in enumerate(rankers(number), 1)]
     for number in range(RESIDENTS):
-        pair.residents += [[person(number), str(rank), PROGRAMMES[one]] for rank, one in enumerate(ranked_by(number), 1)]
+        pair.residents += [[person(number), str(rank), PROGRAMMES[programme]] for rank, programme in enumerate(ranked_by(number), 1)]
     return pair
 
 
@@ -901,7 +901,7 @@ def with_numbers(begin: int = 1000, width: int = 0) -> Pair:
 
 @mistake("programmes", 2, 3, "IDs match without `.0`: 1000.0 is 1000 in the table of residents", with_numbers)
 def ids_with_a_point_in_lists(pair):
-    pair.programmes[1:] = [row[:2] + [f"{one}.0" for one in row[2:]] for row in pair.programmes[1:]]
+    pair.programmes[1:] = [row[:2] + [f"{cell}.0" for cell in row[2:]] for row in pair.programmes[1:]]
 
 
 @mistake("programmes", 2, 3, "IDs match with `.0`: 1000 is 1000.0 in the table of residents", with_numbers)
@@ -912,7 +912,7 @@ def ids_with_a_point_in_their_table(pair):
 
 @mistake("programmes", 2, 3, "IDs match but for zeros before them: 1 is 00001", lambda: with_numbers(1, 5))
 def ids_that_lost_their_zeros(pair):
-    pair.programmes[1:] = [row[:2] + [one.lstrip("0") for one in row[2:]] for row in pair.programmes[1:]]
+    pair.programmes[1:] = [row[:2] + [cell.lstrip("0") for cell in row[2:]] for row in pair.programmes[1:]]
 
 
 @mistake("residents", 2, 2, "IDs look like 1.82E+07: format the column as text", with_numbers)

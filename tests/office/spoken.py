@@ -23,7 +23,7 @@ class Spoken(NamedTuple):
     title: str
 
 
-LANGUAGES: Dict[str, Spoken] = {one.language: one for one in (
+LANGUAGES: Dict[str, Spoken] = {spoken.language: spoken for spoken in (
     Spoken("English", "Hospital", "Places", "Applicant", ("First name", "Last name"), "{}. choice", "Rank", "ID", "Withdrawn", "yes", "Total",
            "Applicants of 2026"),
     Spoken("German", "Klinik", "Plätze", "Bewerber/in", ("Vorname", "Nachname"), "{}. Wahl", "Rang", "Kennung", "Zurückgezogen", "ja", "Summe",

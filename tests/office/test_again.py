@@ -15,7 +15,7 @@ from test_folder import sample, sha256, table
 
 
 def snapshot(path: Path) -> Dict[str, str]:
-    return {str(one.relative_to(path)): sha256(one) for one in path.rglob("*") if one.is_file()}
+    return {str(file.relative_to(path)): sha256(file) for file in path.rglob("*") if file.is_file()}
 
 
 class Again(OfficeTest):
@@ -51,7 +51,7 @@ class Withdraw(Again):
             rows = table(self.folder / word / "matches.csv")
             self.assertEqual({row["resident"]: row["programme"] or None for row in rows}, now.match)
             self.assertEqual({row["resident"] for row in rows if row["standing"] == "withdrawn"}, set(gone) & set(now.match))
-            moved = {one for one, where in now.match.items() if where != self.before.match[one]} | (set(gone) & set(now.match))
+            moved = {resident for resident, where in now.match.items() if where != self.before.match[resident]} | (set(gone) & set(now.match))
             changed = table(self.folder / word / "changes.csv")
             self.assertEqual(
                 {row["Name"] for row in changed if row["Side"] == "resident" and row["Change"] != "stands otherwise"}, moved
@@ -63,10 +63,10 @@ class Withdraw(Again):
                 )
             )
             told = {row["Name"]: row["Change"] for row in changed}
-            for one in set(now.match) & moved - set(gone):
-                was, where = self.before.match[one], now.match[one]
-                self.assertEqual(told[one], "now matched" if was is None else "no longer matched" if where is None else "moved")
-            self.assertEqual({told[one] for one in gone}, {"withdrawn"})
+            for resident in set(now.match) & moved - set(gone):
+                was, where = self.before.match[resident], now.match[resident]
+                self.assertEqual(told[resident], "now matched" if was is None else "no longer matched" if where is None else "moved")
+            self.assertEqual({told[name] for name in gone}, {"withdrawn"})
 
     def test_the_old_folder_stays_as_it_was(self) -> None:
         before = snapshot(self.out)
@@ -81,8 +81,8 @@ class Withdraw(Again):
         self.assertEqual((self.folder / "match-2" / "audit.csv").read_text(), "S,stable\n")
 
     def test_twice_is_the_same_as_at_once(self) -> None:
-        for one, start, out in (("Greta Weiß", "match", "a"), ("dmitri-ivanov", "a", "b")):
-            self.assertEqual(office("withdraw", self.folder / start, one, "--out", self.folder / out).status, 0)
+        for member, start, out in (("Greta Weiß", "match", "a"), ("dmitri-ivanov", "a", "b")):
+            self.assertEqual(office("withdraw", self.folder / start, member, "--out", self.folder / out).status, 0)
         self.assertEqual(
             office("withdraw", self.out, "Dmitri Ivanov", "--resident", "Greta Weiß", "--out", self.folder / "c").status, 0
         )
@@ -124,21 +124,21 @@ class Withdraw(Again):
             chance = random.Random(seed)
             members = made_members(chance)
             names = Names(members)
-            texts = {text for one in members for text in (one.docket_name, one.id, one.name, f"{one.name} ({one.id})") if text}
-            texts |= {f"{one.name} ({one.docket_name})" for one in members}
+            texts = {text for member in members for text in (member.docket_name, member.id, member.name, f"{member.name} ({member.id})") if text}
+            texts |= {f"{member.name} ({member.docket_name})" for member in members}
             for text in sorted(texts | {"Nobody", "a (7)", "A", "(1)"}):
                 for side in ("", "P", "R"):
                     wanted = [
-                        one
-                        for one in members
-                        if side in ("", one.side)
+                        member
+                        for member in members
+                        if side in ("", member.side)
                         and (
-                            text == one.docket_name
-                            or text == one.name
-                            or one.id
-                            and text in (one.id, f"{one.name} ({one.id})")
-                            or not one.id
-                            and text == f"{one.name} ({one.docket_name})"
+                            text == member.docket_name
+                            or text == member.name
+                            or member.id
+                            and text in (member.id, f"{member.name} ({member.id})")
+                            or not member.id
+                            and text == f"{member.name} ({member.docket_name})"
                         )
                     ]
                     try:
@@ -183,7 +183,7 @@ def made_members(chance: random.Random) -> List[Member]:
         named = [chance.choice(["A", "B", "a", "b", "1", "2"]) for _ in range(3)]
         if not with_ids:
             named = chance.sample(["A", "B", "a", "b", "1", "2"], 3)
-        members += [Member(side, *one) for one in zip(docket_names, named, ids)]
+        members += [Member(side, *parts) for parts in zip(docket_names, named, ids)]
     return members
 
 
@@ -321,16 +321,16 @@ class Compare(OfficeTest):
     def figures(self, given: derived.Derived, gone: Sequence[str]) -> List[str]:
         """The ten figures of a year, counted from its tables."""
         match = derived.match(given, gone)
-        there = [one for one in given.resident_lists if one not in gone]
+        there = [resident_list for resident_list in given.resident_lists if resident_list not in gone]
         share = lambda count: f"{count} ({100 * count / len(there):.0f}%)"  # noqa: E731
-        matched = [one for one in there if match.match[one]]
-        choices = [match.choice(one) for one in matched]
-        back = [one for one in there if one not in matched and match.ranked_back(one, gone)]
+        matched = [resident for resident in there if match.match[resident]]
+        choices = [match.choice(resident) for resident in matched]
+        back = [resident for resident in there if resident not in matched and match.ranked_back(resident, gone)]
         counts = [len(matched), *(choices.count(choice) for choice in (1, 2, 3)), sum(choice > 3 for choice in choices)]
         counts += [len(back), len(there) - len(matched) - len(back)]
-        programmes = [one for one in given.places if one not in gone]
-        places = sum(given.places[one] for one in programmes)
-        left = sum(given.places[one] - len(match.members(one)) for one in programmes)
+        programmes = [place for place in given.places if place not in gone]
+        places = sum(given.places[programme] for programme in programmes)
+        left = sum(given.places[programme] - len(match.members(programme)) for programme in programmes)
         return [str(len(there)), *map(share, counts), str(len(programmes)), f"{left} of {places}"]
 
     def test_ten_lines_of_figures(self) -> None:

@@ -233,8 +233,8 @@ class Honest(unittest.TestCase):
             data, given = ({path.relative_to(at).as_posix(): path.read_bytes() for path in at.rglob("*") if path.is_file()} for at in (matched, copy))
             self.assertEqual(given.pop("for-auditor.txt").decode("utf-8"), FOR_AUDITOR + last)
             made = ("manifest.json", "SHA256SUMS")
-            self.assertEqual({name: one for name, one in given.items() if name not in made},
-                             {name: one for name, one in data.items() if name not in made and not name.startswith(tuple(without))})
+            self.assertEqual({name: data_of for name, data_of in given.items() if name not in made},
+                             {name: data_of for name, data_of in data.items() if name not in made and not name.startswith(tuple(without))})
             self.assertEqual({path.stat().st_mode & 0o077 for path in copy.rglob("*") if "public" not in path.parts}, {0})
 
     def test_by_each_python(self) -> None:

@@ -98,8 +98,8 @@ class Cells(CellsTest):
     def test_names_come_back_from_key_and_roster(self) -> None:
         out = self.run_names()
         names = read_key((out / "key.csv").read_bytes())
-        self.assertEqual([one.name for one in names.members("R")], list(NAMES + PLAIN))
-        self.assertEqual([one.id for one in names.members("R")][:2], ["=6+0", "=6+1"])
+        self.assertEqual([member.name for member in names.members("R")], list(NAMES + PLAIN))
+        self.assertEqual([member.id for member in names.members("R")][:2], ["=6+0", "=6+1"])
         rows = [row for path in (out / "rosters").glob("*.csv") for row in table(path)]
         self.assertEqual(len(rows), len(NAMES + PLAIN) - 1)
         self.assertEqual({from_cell(row["Resident"]) for row in rows}, set(NAMES + PLAIN) - {"=1+1"})

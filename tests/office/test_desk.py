@@ -240,8 +240,8 @@ class Parts(unittest.TestCase):
     def test_exactly_as_many_pairs_as_may_be(self) -> None:
         """200,000 pairs who rank one another are none too many for lint, and one more is."""
         programmes, residents = [f"p{number}" for number in range(100)], [f"r{number}" for number in range(2000)]
-        rows = [f"Q,{one},1" for one in programmes] + [",".join(["P", one, *residents]) for one in programmes]
-        rows += [",".join(["R", one, *programmes]) for one in residents]
+        rows = [f"Q,{programme},1" for programme in programmes] + [",".join(["P", programme, *residents]) for programme in programmes]
+        rows += [",".join(["R", resident, *programmes]) for resident in residents]
         self.assertEqual(lint("\n".join(rows).encode()), [])
         more = rows + ["R,last,p0"]
         more[100] += ",last"

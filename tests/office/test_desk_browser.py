@@ -117,14 +117,14 @@ class BrowserTest(OfficeTest):
     def quiet(self) -> None:
         """Nothing was asked elsewhere than of the desk, nothing complains, and no control is without a name."""
         own = (f"http://{self.running.host}/", "data:", "blob:", "about:")
-        asked = [one["params"]["request"]["url"] for one in self.browser.events if one.get("method") == "Network.requestWillBeSent"]
+        asked = [event["params"]["request"]["url"] for event in self.browser.events if event.get("method") == "Network.requestWillBeSent"]
         self.assertEqual([url for url in asked if not url.startswith(own)], [])
         self.assertGreater(len(asked), 5)
         self.assertEqual(self.browser.complaints(), [])
         self.named()
 
     def named(self) -> None:
-        bare = [one for one in self.browser.spoken() if one.rstrip(": ") in CONTROLS]
+        bare = [phrase for phrase in self.browser.spoken() if phrase.rstrip(": ") in CONTROLS]
         self.assertEqual(bare, [])
 
     def fits(self) -> None:
@@ -224,7 +224,7 @@ class Walk(BrowserTest):
         self.wait_for("What was sealed is matched. Publish the roots, and give all members their receipts.")
         self.press_button("Make the tables of a next round")
         self.wait_for("The tables of a next round are in next-round. Save them, fill in the lists, and give them above.")
-        self.assertEqual(sorted(one.name for one in self.running.desk.folders["next-round"].iterdir()), ["programmes.xlsx", "residents.xlsx"])
+        self.assertEqual(sorted(path.name for path in self.running.desk.folders["next-round"].iterdir()), ["programmes.xlsx", "residents.xlsx"])
         self.fits()
         self.quiet()
 
@@ -279,15 +279,15 @@ class Walk(BrowserTest):
         for selector in ("[data-print='letters.html']", "[data-print='rosters.html']"):
             self.browser.ask("Runtime.evaluate", expression=f"document.querySelector({json.dumps(selector)}).click()", userGesture=True)
             self.until(lambda: any(self.views()))
-            for one in self.views():
-                self.browser.ask("Target.closeTarget", targetId=one)
+            for view in self.views():
+                self.browser.ask("Target.closeTarget", targetId=view)
             self.until(lambda: not self.views() and not self.running.desk.tickets)
         self.assertEqual(self.browser.complaints(), [])
 
     def views(self) -> List[str]:
         """The windows that show a part of a folder."""
         found = self.browser.ask("Target.getTargets")["targetInfos"]
-        return [one["targetId"] for one in found if one["type"] == "page" and "/view/" in one["url"]]
+        return [target["targetId"] for target in found if target["type"] == "page" and "/view/" in target["url"]]
 
     def test_faults_are_mended_beside_their_cells(self) -> None:
         self.start()

@@ -170,9 +170,9 @@ class Requests(OfficeTest):
 
     def test_hostile_requests_are_refused(self) -> None:
         self.assertGreaterEqual(len(HOSTILE), 80)
-        for name, one in HOSTILE.items():
+        for name, request in HOSTILE.items():
             with self.subTest(name):
-                self.assertEqual(self.running.raw(self.put(one.request)), self.whole(one.status, one.text))
+                self.assertEqual(self.running.raw(self.put(request.request)), self.whole(request.status, request.text))
         # None of them did anything.
         self.assertEqual((self.running.desk.given, self.running.desk.folders, self.running.desk.over.is_set()), ({}, {}, False))
 
@@ -199,8 +199,8 @@ class Requests(OfficeTest):
                 self.assertEqual(re.findall(r"innerHTML|outerHTML|insertAdjacent|document\.write|eval\(|Function\(|cookie|localStorage|https?://", code), [], name)
 
     def test_no_answer_lets_another_origin_in(self) -> None:
-        for name, one in HOSTILE.items():
-            self.assertNotIn(b"access-control", self.running.raw(self.put(one.request)).lower(), name)
+        for name, request in HOSTILE.items():
+            self.assertNotIn(b"access-control", self.running.raw(self.put(request.request)).lower(), name)
         for answer in (self.running.fetched("/"), self.running.ask("POST", "/call/state", b"{}", Origin=f"http://{self.running.host}")):
             self.assertEqual((answer.status, {*answer.headers} & {"Access-Control-Allow-Origin", "Set-Cookie"}), (200, set()))
 
@@ -279,7 +279,7 @@ class Requests(OfficeTest):
         self.assertEqual(self.running.fetched(address), shown)
         self.assertEqual(self.running.fetched(address).status, 404)
         addresses = [self.running.call("view", folder="out", file="page.html") for _ in range(6)]
-        self.assertEqual([self.running.fetched(one).status for one in addresses], [404, 404, 200, 200, 200, 200])
+        self.assertEqual([self.running.fetched(path).status for path in addresses], [404, 404, 200, 200, 200, 200])
 
     def test_a_file_is_downloaded_by_its_name(self) -> None:
         out = self.run_tables()

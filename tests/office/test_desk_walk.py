@@ -37,8 +37,8 @@ Files = Dict[str, Tuple[int, bytes]]
 
 def files_of(path: Path) -> Files:
     """Each file below a folder: its mode and its bytes; and the modes of folders."""
-    found = {one.relative_to(path).as_posix(): one for one in [path, *path.rglob("*")]}
-    return {name: (stat.S_IMODE(one.lstat().st_mode), b"" if one.is_dir() else one.read_bytes()) for name, one in found.items()}
+    found = {file.relative_to(path).as_posix(): file for file in [path, *path.rglob("*")]}
+    return {name: (stat.S_IMODE(file.lstat().st_mode), b"" if file.is_dir() else file.read_bytes()) for name, file in found.items()}
 
 
 class DeskTest(OfficeTest):
@@ -147,7 +147,7 @@ class Folders(DeskTest):
         self.assertEqual(self.desk.call("match", sealed="sealed", day=LATER, settings={"match": {"cut_offs": True}}), "match")
         self.done("run", sealed, "--out", self.folder / "out", "--date", LATER, "--cut-offs")
         self.same(self.saved("match"), self.folder / "out")
-        said = {one["name"]: one["sealed"] for one in self.desk.call("state")["folders"]}
+        said = {folder["name"]: folder["sealed"] for folder in self.desk.call("state")["folders"]}
         roots = dict(line.split(",")[0::2] for line in (self.folder / "out" / "root.txt").read_text().splitlines())
         self.assertEqual(said["match"], {"members": 11, "lists": roots["lists"], "result": roots["result"]})
 
@@ -171,9 +171,9 @@ class Folders(DeskTest):
         self.assertEqual(self.desk.said("save", folder="match", out="")[-1], {"error": "'' can't be written: it is no path"})
         self.assertEqual(self.desk.said("save", folder="match", out="no/such")[-1]["error"].split(":")[0], f"{self.folder}/no/such can't be written")
         self.assertEqual(self.left(), ["here", "link"])
-        self.assertEqual([one["is_saved"] for one in self.desk.call("state")["folders"]], [False])
+        self.assertEqual([folder["is_saved"] for folder in self.desk.call("state")["folders"]], [False])
         self.same(self.saved("match"), self.desk.desk.room / "match")
-        self.assertEqual([one["is_saved"] for one in self.desk.call("state")["folders"]], [True])
+        self.assertEqual([folder["is_saved"] for folder in self.desk.call("state")["folders"]], [True])
 
 
 class Answers(DeskTest):
@@ -205,7 +205,7 @@ class Answers(DeskTest):
         self.give("Programme,Places,Rank 1\nNorth,1,Kim aa\n", "Applicant,Rank 1\n" + "".join(f"{name},North\n" for name in names))
         self.desk.call("match", day=DAY)
         told = self.desk.call("members", folder="match", part="kim", side="R")
-        self.assertEqual(([one[2] for one in told["members"]], told["count"]), (names[:12], 20))
+        self.assertEqual(([member[2] for member in told["members"]], told["count"]), (names[:12], 20))
 
     def test_verify_says_what_the_command_says(self) -> None:
         self.give()
@@ -213,13 +213,13 @@ class Answers(DeskTest):
         self.desk.call("open", path="out")
         wanted = self.done("verify", out)
         *lines, last = self.desk.said("verify", folder="out")
-        self.assertEqual([f"{what}: {said}" if what else said for what, said, _ in (one["progress"] for one in lines)], wanted[:-1])
+        self.assertEqual([f"{what}: {said}" if what else said for what, said, _ in (line["progress"] for line in lines)], wanted[:-1])
         self.assertEqual(last["answer"]["wrong"], [])
         self.assertEqual(", ".join(last["answer"]["held"]), wanted[-1].split("; ")[0])
         self.assertEqual(last["answer"]["unchecked"], ["lists and names, for want of the tables (--tables)"])
         *lines, last = self.desk.said("verify", folder="out", tables="yes")
         self.assertEqual(last["answer"]["unchecked"], [])
-        self.assertIn(["tables", "the files that the manifest names, and the docket and key that they give", True], [one.get("progress") for one in lines])
+        self.assertIn(["tables", "the files that the manifest names, and the docket and key that they give", True], [line.get("progress") for line in lines])
         (out / "page.html").write_bytes((out / "page.html").read_bytes().replace(b"Kim", b"Tim"))
         self.assertEqual(self.desk.call("verify", folder="out")["wrong"], ["files"])
 
@@ -228,7 +228,7 @@ class Answers(DeskTest):
         self.give()
         self.desk.call("seal", day=DAY)
         self.desk.call("match", sealed="sealed", day=DAY)
-        sealed = next(one["sealed"] for one in self.desk.call("state")["folders"] if one["name"] == "match")
+        sealed = next(folder["sealed"] for folder in self.desk.call("state")["folders"] if folder["name"] == "match")
         lists, result = (f"{sealed['members']},{sealed[word]}" for word in ("lists", "result"))
         self.assertEqual(self.desk.call("verify", folder="match", lists=lists, result=result)["wrong"], [])
         self.assertEqual(self.desk.call("verify", folder="match", lists=lists.replace("11,", "12,"), result=result)["wrong"], ["published"])
@@ -258,21 +258,21 @@ class Tables(DeskTest):
         for pair in ((programmes, RESIDENTS), (programmes, residents), (PROGRAMMES, RESIDENTS + "Total,,,\n")):
             self.give(*pair)
             told, wanted = self.desk.call("check"), json.loads(office("check", *self.tables(*pair), "--json").out)
-            self.assertEqual([{**one, "cause": ""} for one in told["faults"]["faults"]], [{**one, "cause": ""} for one in wanted["faults"]])
+            self.assertEqual([{**fault, "cause": ""} for fault in told["faults"]["faults"]], [{**fault, "cause": ""} for fault in wanted["faults"]])
             self.assertEqual({kind: count for kind, (count, _) in told["faults"]["kinds"].items()}, wanted["counts"])
             self.assertEqual((told["faults"]["count"], told["ready"]), (sum(wanted["counts"].values()), False))
 
     def test_no_sentence_of_the_desk_names_an_option(self) -> None:
-        self.assertEqual({code for code, one in sentences.DESK.items() if isinstance(one, str) and "--" in one}, set())
+        self.assertEqual({code for code, sentence in sentences.DESK.items() if isinstance(sentence, str) and "--" in sentence}, set())
         cases = {"heading.several": {"heading": "Platz", "roles": ["rank", "places"]},
                  "file.phrase-values": {"name": "x", "values": []}, "file.some-ids": {"count": 1, "of": 2, "owners": "resident", "name": "Kim"},
                  "file.kind": {"what": "pdf"}, "heading.none": {"owners": "resident", "cells": ("a",)}, "note.shared": {"names": [("Kim", ["1", "2"])]},
                  "row.other-mark": {"other": ";", "delimiter": ",", "declared": False, "sheet": None}}
-        self.assertEqual({*cases}, {code for code, one in sentences.DESK.items() if not isinstance(one, str)})
+        self.assertEqual({*cases}, {code for code, sentence in sentences.DESK.items() if not isinstance(sentence, str)})
         for code, values in cases.items():
             self.assertNotIn("--", sentences.as_sentence(sentences.DESK[code], values), code)
         # Each sentence of the command that names an option has another one at the desk.
-        self.assertEqual({code for code, one in sentences.TEXTS["SENTENCES"].items() if "--" in one} - {*sentences.TEXTS["DESK"]}, set())
+        self.assertEqual({code for code, sentence in sentences.TEXTS["SENTENCES"].items() if "--" in sentence} - {*sentences.TEXTS["DESK"]}, set())
 
     def test_rows_at_fault_are_shown_wherever_they_stand(self) -> None:
         rows = [f"Person {chr(97 + n // 26)}{chr(97 + n % 26)},North" for n in range(100)]
@@ -296,7 +296,7 @@ class Tables(DeskTest):
     def test_one_table_alone_is_checked(self) -> None:
         self.desk.give("programmes", PROGRAMMES.replace(",2,", ",x,").encode())
         told = self.desk.call("check")
-        self.assertEqual(([one["code"] for one in told["faults"]["faults"]], [*told["looks"]], told["ready"]), (["places.no-number"], ["programmes"], False))
+        self.assertEqual(([fault["code"] for fault in told["faults"]["faults"]], [*told["looks"]], told["ready"]), (["places.no-number"], ["programmes"], False))
 
     def test_settings_are_saved_as_the_command_saves_them(self) -> None:
         self.give()
@@ -355,9 +355,9 @@ class Command(OfficeTest):
         out = self.run_tables()
         process, desk = self.start("out", "--no-browser")
         (room,) = (self.folder / "tmp").iterdir()
-        self.assertEqual((stat.S_IMODE(room.stat().st_mode), [one.name for one in room.iterdir()]), (0o700, ["desk.html"]))
+        self.assertEqual((stat.S_IMODE(room.stat().st_mode), [path.name for path in room.iterdir()]), (0o700, ["desk.html"]))
         self.assertEqual(stat.S_IMODE((room / "desk.html").stat().st_mode), 0o600)
-        self.assertEqual([one["name"] for one in desk.call("state")["folders"]], ["out"])
+        self.assertEqual([folder["name"] for folder in desk.call("state")["folders"]], ["out"])
         self.assertEqual(desk.call("why", folder="out", member="Kim Lee"), office("why", out, "Kim Lee").out.splitlines())
         self.assertEqual(desk.ask("POST", "/close").lines(), [{"answer": "closed"}])
         self.assertEqual(self.ended(process), (0, "the desk is closed\n", ""))

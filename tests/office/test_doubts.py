@@ -19,7 +19,7 @@ def given(rows: Rows, chance: random.Random) -> steps.Given:
     mark, text = chance.choice(",;\t|"), io.StringIO()
     csv.writer(text, delimiter=mark).writerows(rows)
     whole = text.getvalue()
-    sets = ["utf-8", "utf-8-sig", "utf-16"] + [one for one in ("cp1252", "ascii") if encodes(whole, one) and not whole.isascii() == (one == "cp1252")]
+    sets = ["utf-8", "utf-8-sig", "utf-16"] + [encoding for encoding in ("cp1252", "ascii") if encodes(whole, encoding) and not whole.isascii() == (encoding == "cp1252")]
     return steps.Given("table", whole.encode(chance.choice(sets[:3])))
 
 
@@ -138,7 +138,7 @@ class Doubts(OfficeTest):
             pair.residents.insert(row, [other, *pair.residents[1][1:]])
             names = [text[0] for text in pair.residents]
             first, second = sorted((names.index(name) + 1, names.index(other) + 1))
-            (fault,) = [one for one in self.checked(chance, pair).faults.every() if one.kind != "row"]
+            (fault,) = [found for found in self.checked(chance, pair).faults.every() if found.kind != "row"]
             self.assertEqual((fault.code, fault.row, fault.column), ("name.alike", second, 1))
             self.assertEqual(sentences.cause(fault), f"{names[second - 1]} is {names[first - 1]} in row {first} but for capitals, blanks or accents; "
                              "if these are two, a column headed ID tells them apart (or --allow-alike)")

@@ -188,7 +188,7 @@ class Values(unittest.TestCase):
         self.assertEqual(codes, set(sentences.ERRORS))
         self.assertFalse(set(sentences.ERRORS) & set(sentences.SENTENCES))
         told = re.findall(r'\("([a-z]+)", what, name', (package / "changed.py").read_text())
-        self.assertEqual({"sealed.withdrawn", "changed.back", "changed.withdrawn", *(f"changed.{one}" for one in told)}, set(sentences.OTHERWISE))
+        self.assertEqual({"sealed.withdrawn", "changed.back", "changed.withdrawn", *(f"changed.{code}" for code in told)}, set(sentences.OTHERWISE))
 
     def test_how_a_reader_ends(self) -> None:
         for code, values, text in (("reader.ended", {"ended": -11}, "what read this ended with status -11"),

@@ -95,7 +95,7 @@ class Written(OfficeTest):
         self.assertEqual(stat.S_IMODE(self.out.stat().st_mode), 0o777 & ~writing.umask())
 
     def test_what_it_says(self) -> None:
-        lost = [one for one, where in self.wanted.match.items() if where is None and self.wanted.ranked_back(one)]
+        lost = [resident for resident, where in self.wanted.match.items() if where is None and self.wanted.ranked_back(resident)]
         self.assertEqual(
             self.said.splitlines()[2:],
             [
@@ -109,11 +109,11 @@ class Written(OfficeTest):
         name = lambda side, made: self.key[side, made]  # noqa: E731
         self.assertEqual({name("P", row[1]): int(row[2]) for row in rows if row[0] == "Q"}, self.wanted.places)
         self.assertEqual(
-            {name("P", row[1]): [name("R", one) for one in row[2:]] for row in rows if row[0] == "P"},
+            {name("P", row[1]): [name("R", resident) for resident in row[2:]] for row in rows if row[0] == "P"},
             self.wanted.programme_lists,
         )
         self.assertEqual(
-            {name("R", row[1]): [name("P", one) for one in row[2:]] for row in rows if row[0] == "R"},
+            {name("R", row[1]): [name("P", programme) for programme in row[2:]] for row in rows if row[0] == "R"},
             self.wanted.resident_lists,
         )
         sheet = [line.split(",") for line in (self.out / "sheet.csv").read_text().splitlines()]
@@ -148,9 +148,9 @@ class Written(OfficeTest):
 
     def test_unfilled_places(self) -> None:
         wanted = {
-            one: (places, len(self.wanted.members(one)))
-            for one, places in self.wanted.places.items()
-            if places > len(self.wanted.members(one))
+            programme: (places, len(self.wanted.members(programme)))
+            for programme, places in self.wanted.places.items()
+            if places > len(self.wanted.members(programme))
         }
         rows = table(self.out / "unfilled.csv")
         self.assertEqual({row["Programme"]: (int(row["Quota"]), int(row["Filled"])) for row in rows}, wanted)
@@ -162,7 +162,7 @@ class Written(OfficeTest):
         self.assertEqual(list(rows[0]), ["Resident", "Standing", "Programme", "Choice"])
         self.assertEqual({row["Resident"]: row["Programme"] or None for row in rows}, self.wanted.match)
         self.assertEqual({row["Resident"]: row["Choice"] for row in rows},
-                         {one: str(self.wanted.choice(one)) if where else "" for one, where in self.wanted.match.items()})
+                         {resident: str(self.wanted.choice(resident)) if where else "" for resident, where in self.wanted.match.items()})
         self.assertEqual({row["resident"]: row["standing"] for row in table(self.out / "matches.csv")}, {row["Resident"]: row["Standing"] for row in rows})
 
     def test_results_and_rosters_with_what_is_kept(self) -> None:
@@ -179,7 +179,7 @@ class Written(OfficeTest):
             rows = table(self.out / "rosters" / f"{made}.csv")
             self.assertEqual(
                 [(int(row["Rank on your list"]), row["Resident"]) for row in rows],
-                [(self.wanted.rank(one), one) for one in self.wanted.members(programme)],
+                [(self.wanted.rank(member), member) for member in self.wanted.members(programme)],
             )
 
     def test_letters(self) -> None:
@@ -205,7 +205,7 @@ class Written(OfficeTest):
                     said = "not needed, since you have one that you would rather have"
                 elif name in self.wanted.programme_lists[programme]:
                     said = "it filled all of its places with residents whom it ranks before you"
-                    worst = max(self.wanted.rank(one) for one in self.wanted.members(programme))
+                    worst = max(self.wanted.rank(member) for member in self.wanted.members(programme))
                     self.assertLess(worst, self.wanted.programme_lists[programme].index(name) + 1)
                     self.assertEqual(len(self.wanted.members(programme)), self.wanted.places[programme])
                 else:
@@ -218,7 +218,7 @@ class Written(OfficeTest):
         self.assertEqual(manifest["sha256"], {name: sha256(self.out / name) for name in files})
         self.assertEqual((manifest["date"], manifest["title"], manifest["withdrawn"]), ("2026-03-20", "Match of <2026>", []))
         self.assertEqual(
-            [one["sha256"] for one in manifest["tables"]],
+            [given_table["sha256"] for given_table in manifest["tables"]],
             [sha256(SAMPLES / "programmes.csv"), sha256(SAMPLES / "residents.csv")],
         )
         page = (self.out / "page.html").read_text(encoding="utf-8")
@@ -266,11 +266,11 @@ class Ranks(OfficeTest):
         # By hand: South takes Ana, East Zoë, North Kim and Jürgen; Omar comes after Ana and Zoë; West ranks Kim alone.
         wanted = derived.match(derived.tables(PROGRAMMES, RESIDENTS))
         self.assertEqual(
-            {one: kind for one, kind in kinds.items() if kind != "matched"},
+            {resident: kind for resident, kind in kinds.items() if kind != "matched"},
             {"Omar Haddad": "lost out", "Fatima Kovács": "ranked back by nobody", "Rosa Rossi": "ranked nobody"},
         )
         self.assertEqual(
-            {one for one, kind in kinds.items() if kind == "matched"}, {one for one, where in wanted.match.items() if where}
+            {resident for resident, kind in kinds.items() if kind == "matched"}, {resident for resident, where in wanted.match.items() if where}
         )
 
 

@@ -75,8 +75,8 @@ class Given(unittest.TestCase):
         call = number if kind.ids else {name: name for name in number}
         who = [["ID"] * kind.ids + (["First name", "Last name", "Email"] if kind.family else ["Applicant"]), []]
         who[1] = [[call[name]] * kind.ids + ([*name.split(" "), f"{number[name]}@x.org"] if kind.family else [name])
-                  + [call[one] for one in listed] for name, listed in lists.residents.items()]
-        what = [[call[name]] * kind.ids + [name, lists.places[name], *(call[one] for one in listed)] for name, listed in lists.programmes.items()]
+                  + [call[programme] for programme in listed] for name, listed in lists.residents.items()]
+        what = [[call[name]] * kind.ids + [name, lists.places[name], *(call[resident] for resident in listed)] for name, listed in lists.programmes.items()]
         (room / "p.csv").write_bytes(table(["ID"] * kind.ids + ["Programme", "Places"], what))
         (room / "r.csv").write_bytes(table(who[0], who[1]))
         tables = [room / "p.csv", room / "r.csv"]
@@ -129,7 +129,7 @@ def changed_market(market: derivation.Market, chance: random.Random) -> Tuple[st
         name, how = chance.choice(list(lists)), chance.randrange(3)
         listed = list(lists[name])
         at = chance.randrange(len(listed))
-        more = [one for one in everybody if one not in listed][:1] * (how == 1)
+        more = [member for member in everybody if member not in listed][:1] * (how == 1)
         listed = listed[:at] + more + chance.sample(listed[at:], len(listed) - at) if how < 2 else listed[:at] + listed[at + 1:]
         made = market._replace(**{field: {**lists, name: listed}})
         if listed and listed != list(lists[name]) and results(made, name) == results(market, name):
@@ -139,8 +139,8 @@ def changed_market(market: derivation.Market, chance: random.Random) -> Tuple[st
 def in_names(lists: Lists, before: derivation.Market, market: derivation.Market) -> Lists:
     """A market in the names of the tables, which has the members of these lists in their order."""
     programme, resident = dict(zip(before.quotas, lists.programmes)), dict(zip(before.resident_lists, lists.residents))
-    return Lists(lists.places, {programme[one]: [resident[name] for name in market.programme_lists[one]] for one in before.quotas},
-                 {resident[one]: [programme[name] for name in market.resident_lists[one]] for one in before.resident_lists})
+    return Lists(lists.places, {programme[quota]: [resident[name] for name in market.programme_lists[quota]] for quota in before.quotas},
+                 {resident[resident_list]: [programme[name] for name in market.resident_lists[resident_list]] for resident_list in before.resident_lists})
 
 
 class Rule(Given):

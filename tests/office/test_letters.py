@@ -47,7 +47,7 @@ class Letters(Again):
         self.assertNotIn("lang", page.all("html")[0].attributes)
         self.assertIn(
             "An Jürgen Groß (jurgen-gross): Queen's Park – Psychiatry/4th von 4, $5, 2026-03-20",
-            [one.text() for one in page.all("article")],
+            [article.text() for article in page.all("article")],
         )
 
     def test_a_template_for_each_standing(self) -> None:
@@ -101,7 +101,7 @@ K. Lee
         self.assertEqual(office("letters", self.out, "--out", self.folder / "letters").status, 0)
         whole = snapshot(self.out)
         wanted = {**snapshot(self.out / "letters"), **{name: whole[name] for name in ("letters.html", "rosters.html")},
-                  **{f"programmes/{Path(name).name}": one for name, one in whole.items() if name.startswith("rosters/") and name.endswith(".txt")}}
+                  **{f"programmes/{Path(name).name}": data for name, data in whole.items() if name.startswith("rosters/") and name.endswith(".txt")}}
         self.assertEqual(snapshot(self.folder / "letters"), wanted)
 
     def test_a_template_at_fault(self) -> None:
@@ -219,7 +219,7 @@ class Said(OfficeTest):
         kinds = [Became.FULL, Became.NO_PLACES, Became.NOT_RANKED, Became.IT_WITHDREW]
         for size in range(1, 6):
             for listed in itertools.combinations_with_replacement(kinds, size):
-                said = [english().say(f"letter.became.{one.key}") for one in listed]
+                said = [english().say(f"letter.became.{became.key}") for became in listed]
                 self.assertEqual(why_not(list(listed), english()), derived.sentence(said))
         full, none, unranked, withdrew = kinds
         for listed, said in (
@@ -244,7 +244,7 @@ class Said(OfficeTest):
         for seed in range(16):
             chance = random.Random(seed)
             given, texts = market(chance)
-            gone = [one for one in (*given.places, *given.resident_lists) if chance.random() < 0.2]
+            gone = [member for member in (*given.places, *given.resident_lists) if chance.random() < 0.2]
             gone = gone if len(gone) > 0 else [next(iter(given.places))]
             self.run_tables(*texts, f"first-{seed}")
             out = self.folder / f"out-{seed}"
@@ -252,7 +252,7 @@ class Said(OfficeTest):
             self.assertEqual(said.status, 0, said.err)
             wanted = derived.match(given, gone)
             articles = Tree(read(out / "letters.html")).root.all("article")
-            page = {one.attributes["id"]: one.text() for one in articles}
+            page = {article.attributes["id"]: article.text() for article in articles}
             self.assertEqual(len(articles), len(given.resident_lists))
             for resident, listed in given.resident_lists.items():
                 text, became = read(out / "letters" / f"{resident.lower()}.txt"), derived.became(wanted, resident, gone)
@@ -274,13 +274,13 @@ def market(chance: random.Random) -> Tuple[derived.Derived, Tuple[str, str]]:
     """A random market and its tables; every third programme has no places or is ranked back by few."""
     programmes = [f"P{number}" for number in range(1, chance.randint(3, 6))]
     residents = [f"R{number}" for number in range(1, chance.randint(6, 12))]
-    places = {one: chance.choice((0, 1, 1, 2)) for one in programmes}
-    lists = {one: chance.sample(residents, chance.randint(1, len(residents))) for one in programmes}
-    wishes = {one: chance.sample(programmes, chance.randint(0, len(programmes))) for one in residents}
+    places = {programme: chance.choice((0, 1, 1, 2)) for programme in programmes}
+    lists = {programme: chance.sample(residents, chance.randint(1, len(residents))) for programme in programmes}
+    wishes = {resident: chance.sample(programmes, chance.randint(0, len(programmes))) for resident in residents}
     texts = []
     for head, rows in (
-        (["Programme", "Places"], [[one, str(places[one]), *lists[one]] for one in programmes]),
-        (["Applicant"], [[one, *wishes[one]] for one in residents]),
+        (["Programme", "Places"], [[programme, str(places[programme]), *lists[programme]] for programme in programmes]),
+        (["Applicant"], [[resident, *wishes[resident]] for resident in residents]),
     ):
         width = max(len(head) + 1, *map(len, rows))
         heading = head + [str(rank) for rank in range(1, width - len(head) + 1)]
@@ -317,11 +317,11 @@ class Names(OfficeTest):
         """A choice, a rank and a length of 111 in letter and page."""
         number = 111
         programmes = "Programme,Places," + ",".join(map(str, range(1, number + 1))) + "\n"
-        fillers = [f"F{one}" for one in range(1, number)]
-        programmes += "".join(f"P{one},1,F{one}\n" for one in range(1, number)) + f"P{number},1," + ",".join(["Kim"]) + "\n"
+        fillers = [f"F{filler}" for filler in range(1, number)]
+        programmes += "".join(f"P{filler},1,F{filler}\n" for filler in range(1, number)) + f"P{number},1," + ",".join(["Kim"]) + "\n"
         residents = "Applicant," + ",".join(map(str, range(1, number + 1))) + "\n"
-        residents += "Kim," + ",".join(f"P{one}" for one in range(1, number + 1)) + "\n"
-        residents += "".join(f"{name},P{one}\n" for one, name in enumerate(fillers, 1))
+        residents += "Kim," + ",".join(f"P{programme}" for programme in range(1, number + 1)) + "\n"
+        residents += "".join(f"{name},P{programme}\n" for programme, name in enumerate(fillers, 1))
         out = self.run_tables(programmes, residents)
         self.assertIn("\nYou are matched with P111,\nthe 111th of the 111 on your list.\n", read(out / "letters" / "kim.txt"))
         self.assertIn("\n  111. P111: you are matched here\n", read(out / "letters" / "kim.txt"))
@@ -342,7 +342,7 @@ class Page(OfficeTest):
         self.assertEqual(root.all("script", "link", "iframe", "object", "img"), [])
         # By name, and each with its own docket's name.
         self.assertEqual(
-            [(one.attributes["aria-label"], one.attributes["id"]) for one in root.all("article")],
+            [(article.attributes["aria-label"], article.attributes["id"]) for article in root.all("article")],
             [
                 ("Ana Silva", "ana-silva"),
                 ("Fatima Kovács", "fatima-kovacs"),
@@ -354,14 +354,14 @@ class Page(OfficeTest):
             ],
         )
         self.assertEqual(root.all("header")[0].text(), "The match 7 letters, one to a sheet when they are printed.")
-        self.assertFalse(any(not one.text() for one in root.all("p", "li")))
+        self.assertFalse(any(not paragraph.text() for paragraph in root.all("p", "li")))
         style = root.all("style")[0].text()
         self.assertIn("article + article { break-before: page; }", style[style.index("@media print") :])
 
     def test_the_order_of_the_table(self) -> None:
         root = self.page(self.run_tables(PROGRAMMES, RESIDENTS, "out", "--order", "table"))
         self.assertEqual(
-            [one.attributes["id"] for one in root.all("article")][:3], ["ana-silva", "kim-lee", "zoe-bronte"]
+            [article.attributes["id"] for article in root.all("article")][:3], ["ana-silva", "kim-lee", "zoe-bronte"]
         )
 
     def test_names_and_templates_are_text(self) -> None:
@@ -378,22 +378,22 @@ class Page(OfficeTest):
         )
         root = self.page(out)
         self.assertEqual(root.all("script"), [])
-        letters = {one.attributes["id"]: one for one in root.all("article")}
+        letters = {article.attributes["id"]: article for article in root.all("article")}
         self.assertEqual(letters["jurgen-gross"].all("p")[0].text(), f"{bad} T {bad}")
-        self.assertIn(f"North {bad}: you are matched here", [one.text() for one in letters["jurgen-gross"].all("li")])
+        self.assertIn(f"North {bad}: you are matched here", [item.text() for item in letters["jurgen-gross"].all("li")])
         # A field without a text leaves no empty paragraph; spaces at a line's start stay.
         self.assertEqual(
-            [one.text() for one in letters["rosa-rossi"].all("p")],
+            [paragraph.text() for paragraph in letters["rosa-rossi"].all("p")],
             [f"{bad} T {bad}", "Dear Rosa Rossi,", "Your list, as it was matched, is empty.", "Yours"],
         )
         self.assertIn("<p>  Dear <bdi>", self.source)
-        fatima = next(one for name, one in letters.items() if name.startswith("fat"))
+        fatima = next(letter for name, letter in letters.items() if name.startswith("fat"))
         self.assertEqual((fatima.attributes["aria-label"], fatima.all("p")[1].text()), (f"Fatima {bad}", f"Dear Fatima {bad},"))
 
     def test_a_quote_in_a_name_ends_no_attribute(self) -> None:
         name = 'Fatima" onfocus="alert(1)" x="&amp; <b>'
         root = self.page(self.run_tables(PROGRAMMES, RESIDENTS.replace("Fatima Kovács", name)))
-        fatima = next(one for one in root.all("article") if one.attributes["id"].startswith("fat"))
+        fatima = next(article for article in root.all("article") if article.attributes["id"].startswith("fat"))
         self.assertEqual((sorted(fatima.attributes), fatima.attributes["aria-label"]), (["aria-label", "id"], name))
         self.assertEqual(root.all("b"), [])
 
@@ -413,7 +413,7 @@ class Kept(OfficeTest):
         for name, article in zip(("Ana", "Bo"), Tree(letters.page()).root.all("article")):
             wanted = [f"name is {name}"] + [f"{field} is {text}" for field, text in zip(fields, kept[name])]
             self.assertEqual(letters.letter(letters.outcome.residents[name]).split("\n\n"), wanted)
-            self.assertEqual([one.text() for one in article.all("p")], wanted)
+            self.assertEqual([paragraph.text() for paragraph in article.all("p")], wanted)
 
     def test_names_of_fields(self) -> None:
         for columns, fields in (
@@ -449,7 +449,7 @@ class Whole(OfficeTest):
         # What is kept is raw, too.
         self.assertEqual([row["Email"] for row in rows], ["zoe@x.org", "=ana;=1+1@x.org", "", "bea@x.org"])
         articles = Tree(read(out / "letters.html")).root.all("article")
-        self.assertEqual([one.attributes["aria-label"] for one in articles][:2], ["Zoë Abel", "Bea de Haas"])
+        self.assertEqual([article.attributes["aria-label"] for article in articles][:2], ["Zoë Abel", "Bea de Haas"])
 
     def test_from_tables_to_letters(self) -> None:
         template = self.write("letter.txt", "$name <$email>\n")
@@ -458,9 +458,9 @@ class Whole(OfficeTest):
         self.assertEqual(read(out / "letters" / "1.txt"), "Zoë Abel <zoe@x.org>\n")
         self.assertEqual(read(out / "letters" / "3.txt"), "Ana Silva (3) <>\n")
         page = Tree(read(out / "page.html")).root
-        matched = next(one for one in page.all("section") if one.attributes["aria-labelledby"] == "matched")
+        matched = next(section for section in page.all("section") if section.attributes["aria-labelledby"] == "matched")
         self.assertEqual(matched.all("caption")[0].text(), "2 residents, by family name")
-        self.assertEqual([one.text() for one in matched.all("b")], ["Abel", "de Haas"])
+        self.assertEqual([bold.text() for bold in matched.all("b")], ["Abel", "de Haas"])
         said = office("withdraw", out, "Zoë Abel", "--out", self.folder / "b", "--template", template)
         self.assertEqual(said.status, 0, said.err)
         self.check(self.folder / "b")

@@ -78,7 +78,7 @@ class PageTest(OfficeTest):
         return Tree(self.source).root
 
     def section(self, root: Node, name: str) -> Node:
-        return next(one for one in root.all("section") if one.attributes.get("aria-labelledby") == name)
+        return next(section for section in root.all("section") if section.attributes.get("aria-labelledby") == name)
 
     def rows(self, root: Node, name: str) -> List[List[str]]:
         table = self.section(root, name).all("table")[0]
@@ -174,7 +174,7 @@ class Sample(PageTest):
 
     def test_unfilled_places_first(self) -> None:
         self.assertEqual(self.root.all("section")[0].attributes["aria-labelledby"], "unfilled")
-        wanted = [(one, places, len(self.wanted.members(one))) for one, places in self.wanted.places.items()]
+        wanted = [(programme, places, len(self.wanted.members(programme))) for programme, places in self.wanted.places.items()]
         short = [places - filled for _, places, filled in wanted if places > filled]
         self.assertEqual(
             self.section(self.root, "unfilled").all("caption")[0].text(),
@@ -183,21 +183,21 @@ class Sample(PageTest):
         self.assertEqual(
             self.rows(self.root, "unfilled"),
             [
-                [one, str(places), str(filled), str(places - filled)]
-                for one, places, filled in sorted(wanted)
+                [programme, str(places), str(filled), str(places - filled)]
+                for programme, places, filled in sorted(wanted)
                 if places > filled
             ],
         )
 
     def test_figures_and_choices(self) -> None:
-        matched = [one for one, where in self.wanted.match.items() if where]
+        matched = [resident for resident, where in self.wanted.match.items() if where]
         boxes = self.section(self.root, "figures").all("div")
-        lost = sum(not where and self.wanted.ranked_back(one) for one, where in self.wanted.match.items())
+        lost = sum(not where and self.wanted.ranked_back(resident) for resident, where in self.wanted.match.items())
         self.assertEqual(
             [box.text() for box in boxes],
             [f"residents matched{len(matched)}", f"no place left{lost}", f"ranked back by nobody{11 - lost}", "ranked nobody0"],
         )
-        counts = [sum(self.wanted.choice(one) == choice for one in matched) for choice in (1, 2, 3, 4)]
+        counts = [sum(self.wanted.choice(resident) == choice for resident in matched) for choice in (1, 2, 3, 4)]
         wanted = [
             [f"{nth} choice", str(count), f"{100 * count / 40:.0f}%"]
             for nth, count in zip(("1st", "2nd", "3rd", "4th"), counts)
@@ -212,7 +212,7 @@ class Sample(PageTest):
 
     def test_matched_residents_by_the_alphabet(self) -> None:
         rows = self.rows(self.root, "matched")
-        self.assertEqual({row[0]: row[1] for row in rows}, {one: where for one, where in self.wanted.match.items() if where})
+        self.assertEqual({row[0]: row[1] for row in rows}, {name: where for name, where in self.wanted.match.items() if where})
         self.assertEqual(
             [row[0] for row in rows[:6]],
             ["Amara Okafor", "Ángela García", "Björn Östlund", "Chloé Brontë", "Dmitri Ivanov", "Élodie Bélanger"],
@@ -227,17 +227,17 @@ class Sample(PageTest):
     def test_programmes(self) -> None:
         rows = {row[0]: row[1:] for row in self.rows(self.root, "programmes")}
         self.assertEqual(list(rows), sorted(rows, key=english().alphabetical))
-        for one, places in self.wanted.places.items():
-            members = self.wanted.members(one)
-            self.assertEqual(rows[one][:3], [str(places), str(len(members)), str(places - len(members))])
-            last = f"{derived.nth(self.wanted.rank(members[-1]))} of {len(self.wanted.programme_lists[one])}"
-            self.assertEqual(rows[one][3], last if len(members) == places else "open")
+        for programme, places in self.wanted.places.items():
+            members = self.wanted.members(programme)
+            self.assertEqual(rows[programme][:3], [str(places), str(len(members)), str(places - len(members))])
+            last = f"{derived.nth(self.wanted.rank(members[-1]))} of {len(self.wanted.programme_lists[programme])}"
+            self.assertEqual(rows[programme][3], last if len(members) == places else "open")
 
 
 class Other(PageTest):
     def test_kinds_of_unmatched_and_withdrawn(self) -> None:
         self.run_tables(out="first")
-        self.assertEqual([one.text() for one in self.section(self.page(self.folder / "first"), "withdrawn").all("p")], ["Nobody."])
+        self.assertEqual([paragraph.text() for paragraph in self.section(self.page(self.folder / "first"), "withdrawn").all("p")], ["Nobody."])
         office("withdraw", self.folder / "first", "Zoë Brontë", "East Ward", "--out", self.folder / "out")
         root = self.page(self.folder / "out")
         names = lambda name: [(part.text()) for part in self.section(root, name).all("h3", "li")]  # noqa: E731
@@ -260,7 +260,7 @@ class Other(PageTest):
         part = self.section(self.page(self.folder / "out"), "unmatched")
         # East and South alone ranked Omar, who ranks both; Zoë and Jürgen come after Ana and Kim at North's two places.
         self.assertEqual(
-            [one.text() for one in part.all("h3", "li")],
+            [element.text() for element in part.all("h3", "li")],
             [
                 "No place left: 2",
                 "Jürgen Groß",
@@ -359,19 +359,19 @@ class Families(PageTest):
         places = {name: "North" for name in families if name != "Kim Oduya"}
         places["Kim Oda"] = "South"
         about = About("T", date(2026, 3, 20), {"docket.csv": "0" * 64})
-        outcome = outcome_of(market, places, Details({name: one for name, one in families.items() if one}))
+        outcome = outcome_of(market, places, Details({name: family for name, family in families.items() if family}))
         root = Tree(Page(outcome, about).text()).root
         wanted = ["Zoë Abel", "Cher", "Bea de Haas", "Leeson Lee", "Kim Oda", "Åsa Ötztürk", "Ana Silva (1)", "Ana Silva (2)"]
         self.assertEqual([row[0] for row in self.rows(root, "matched")], wanted)
         self.assertEqual(self.section(root, "matched").all("caption")[0].text(), "8 residents, by family name")
         self.assertEqual(
-            [one.text() for one in self.section(root, "matched").all("b")],
+            [bold.text() for bold in self.section(root, "matched").all("b")],
             ["Abel", "de Haas", "Lee", "Oda", "Ötztürk", "Silva", "Silva"],
         )
-        self.assertEqual([one.text() for one in self.section(root, "withdrawn").all("li")], ["Kim Oduya"])
+        self.assertEqual([item.text() for item in self.section(root, "withdrawn").all("li")], ["Kim Oduya"])
         self.assertIn("in alphabetical order", self.section(root, "programmes").all("caption")[0].text())
         letters = Tree(Letters(market, outcome, about).page()).root.all("article")
-        self.assertEqual([one.attributes["aria-label"] for one in letters], wanted[:5] + ["Kim Oduya"] + wanted[5:])
+        self.assertEqual([letter.attributes["aria-label"] for letter in letters], wanted[:5] + ["Kim Oduya"] + wanted[5:])
         # By the order of the table nobody's family name counts.
         rows = self.rows(Tree(Page(outcome, about, "table").text()).root, "matched")
         self.assertEqual([row[0] for row in rows], [name for name in families if name != "Kim Oduya"])
@@ -404,7 +404,7 @@ class Families(PageTest):
         outcome = outcome_of(market, {"Ana": "P"}, details)
         data = matches(outcome)
         self.assertEqual(details_of(data, market.names, True), details)
-        self.assertEqual([names[one] for one in "abc"], list(outcome.residents))
+        self.assertEqual([names[letter] for letter in "abc"], list(outcome.residents))
 
 
 class Open(PageTest):

@@ -159,18 +159,18 @@ class Handed(OfficeTest):
         self.assertEqual(rows(out / "unfilled.csv"), [["Programm", "Plätze insgesamt", "Besetzt", "Frei"], ["West Infirmary", "3", "0", "3"]])
         self.assertEqual(rows(out / "rosters" / "north-clinic.csv"), [["Rang auf Ihrer Liste", "Person"], ["2", "Kim Lee"], ["4", "Jürgen Groß"]])
         page = Tree((out / "page.html").read_text(encoding="utf-8")).root
-        self.assertEqual([(one.attributes["lang"], one.all("title")[0].text()) for one in page.all("html")], [("de", "Die Zuteilung, 2026-03-01")])
-        self.assertEqual([one.text() for one in page.all("h2")], [
+        self.assertEqual([(html_part.attributes["lang"], html_part.all("title")[0].text()) for html_part in page.all("html")], [("de", "Die Zuteilung, 2026-03-01")])
+        self.assertEqual([heading.text() for heading in page.all("h2")], [
             "Freie Plätze", "Auf einen Blick", "Wer welche Wahl bekommen hat", "Personen ohne Platz", "Zurückgezogen", "Personen mit Platz", "Programme",
             "Woraus diese Seite gemacht ist"])
-        self.assertEqual([one.text() for one in page.all("caption")], [
+        self.assertEqual([caption.text() for caption in page.all("caption")], [
             "3 von 7 Plätzen, bei 1 Programm, nach dem Alphabet",
             "Von 7 Personen; die Wahl ist der Rang des Programms auf der Liste der Person, wie sie geschrieben wurde",
             "4 Personen, nach dem Alphabet",
             "4 Programme, nach dem Alphabet; der letzte vergebene Rang ist der auf der Liste des Programms, wie sie geschrieben wurde; ein "
             "Programm mit freien Plätzen ist offen", "Jede Datei und ihr SHA-256, den auch sha256sum ausgibt"])
         # What programs read stays as it is.
-        self.assertEqual([one[3] for one in rows(out / "matches.csv")[1:]], ["matched"] * 4 + ["lost out", "ranked back by nobody", "ranked nobody"])
+        self.assertEqual([row[3] for row in rows(out / "matches.csv")[1:]], ["matched"] * 4 + ["lost out", "ranked back by nobody", "ranked nobody"])
         self.assertEqual(office("letters", out, "--language", "fr", "--out", self.folder / "fr").status, 0)
         self.assertEqual((self.folder / "fr" / "ana-silva.txt").read_text(encoding="utf-8"), FRENCH)
         again = office("withdraw", out, "Ana Silva", "--out", self.folder / "again")
@@ -189,7 +189,7 @@ class Handed(OfficeTest):
             ["Wskaźnik", "Liczba"], ["osoby biorące udział", "7"], ["z miejscem", "4 (57%)"], ["z pierwszym wyborem", "4 (57%)"]])
         for folder in ("sealed", "out"):
             page = Tree((self.folder / folder / "public" / "check.html").read_text(encoding="utf-8")).root
-            self.assertEqual([(one.attributes["lang"], one.all("title")[0].text()) for one in page.all("html")],
+            self.assertEqual([(html_part.attributes["lang"], html_part.all("title")[0].text()) for html_part in page.all("html")],
                              [("pl", "Sprawdzenie pokwitowania: Przydział")])
             self.assertEqual(office("verify", self.folder / folder).status, 0)
 
@@ -222,7 +222,7 @@ class Handed(OfficeTest):
         self.assertEqual((out / "letters" / "ana-silva.txt").read_text(encoding="utf-8"), FRENCH)
         self.assertIn("\nYou are matched with North Clinic,\n", (out / "letters" / "jurgen-gross.txt").read_text(encoding="utf-8"))
         page = Tree((out / "letters.html").read_text(encoding="utf-8")).root
-        self.assertEqual({one.attributes["id"]: one.attributes.get("lang") for one in page.all("article")}, {
+        self.assertEqual({article.attributes["id"]: article.attributes.get("lang") for article in page.all("article")}, {
             "ana-silva": "fr", "kim-lee": "de", "omar-haddad": "de", "fatima-kovacs": None, "jurgen-gross": None, "rosa-rossi": None, "zoe-bronte": None})
         self.assertEqual(office("verify", out).status, 0)
         said = office("run", *self.tables(PROGRAMMES, table.replace("DEUTSCH", "Deutch")), "--language-column", "Sprache", "--out", self.folder / "bad")

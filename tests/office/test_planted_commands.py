@@ -8,7 +8,7 @@ from support import OfficeTest, office
 
 
 def bytes_below(path: Path) -> Dict[str, bytes]:
-    return {str(one.relative_to(path)): one.read_bytes() for one in path.rglob("*") if one.is_file() and one.name != "letter.txt"}
+    return {str(file.relative_to(path)): file.read_bytes() for file in path.rglob("*") if file.is_file() and file.name != "letter.txt"}
 
 
 class Commands(OfficeTest):

@@ -42,18 +42,18 @@ def letter_to(made: derived.Derived, programme: str, words: List[str], gone: boo
     members, places = made.members(programme), made.places[programme]
     told = [withdrew] if gone else [without] if not places else [filled.format(len(members), places)]
     # In French none is one of a kind.
-    told = [one.replace("0 places prises", "0 place prise") for one in told]
+    told = [text.replace("0 places prises", "0 place prise") for text in told]
     told += [unfilled.format(places - len(members))] if not gone and places > len(members) else []
-    ranks = [made.programme_lists[programme].index(one) + 1 for one in members]
+    ranks = [made.programme_lists[programme].index(member) + 1 for member in members]
     width = max((len(str(rank)) for rank in ranks), default=0)
-    rows = [head, "", *(f"  {rank:>{width}}. {one}" for rank, one in zip(ranks, members))] if members else [nobody]
+    rows = [head, "", *(f"  {rank:>{width}}. {member}" for rank, member in zip(ranks, members))] if members else [nobody]
     return "\n".join([day, "", programme, "", *told, "", *rows, "", named.format(programme.lower()), ""])
 
 
 class Programmes(OfficeTest):
     def test_each_letter_in_each_language(self) -> None:
         made = derived.match(derived.tables(MANY_PROGRAMMES, MANY_RESIDENTS))
-        self.assertEqual([len(made.members(one)) for one in made.places], [3, 0, 0, 0])
+        self.assertEqual([len(made.members(place)) for place in made.places], [3, 0, 0, 0])
         for language, words in WORDS.items():
             out = self.run_tables(MANY_PROGRAMMES, MANY_RESIDENTS, language, "--language", language)
             said = office("withdraw", out, "South", "--out", self.folder / f"{language}-2", "--date", "2026-03-20")
@@ -82,15 +82,15 @@ class Programmes(OfficeTest):
         page = Tree(read(out / "rosters.html")).root
         self.assertEqual(page.all("html")[0].attributes["lang"], "en")
         articles = page.all("article")
-        self.assertEqual(sorted(one.attributes["aria-label"] for one in articles), sorted(made.places))
-        for one in articles:
-            programme = one.attributes["aria-label"]
+        self.assertEqual(sorted(article.attributes["aria-label"] for article in articles), sorted(made.places))
+        for article in articles:
+            programme = article.attributes["aria-label"]
             rows, count = [], 0
-            for item in one.all("li"):
+            for item in article.all("li"):
                 count = int(item.attributes.get("value", count + 1))
                 rows.append((count, item.text()))
             self.assertEqual(rows, [(made.programme_lists[programme].index(name) + 1, name) for name in made.members(programme)])
-            self.assertIn(programme, one.text())
+            self.assertIn(programme, article.text())
         self.assertEqual(stat.S_IMODE((out / "rosters.html").stat().st_mode), 0o600)
 
     def test_a_template_for_programmes(self) -> None:

@@ -34,7 +34,7 @@ SYLLABLES = (
     ", ",
     ";",
 )
-PLAIN = tuple(one for one in SYLLABLES if all(ord(c) < 128 or c in "ëÅß" for c in one))
+PLAIN = tuple(syllable for syllable in SYLLABLES if all(ord(c) < 128 or c in "ëÅß" for c in syllable))
 HEADS = {",": "comma", ";": "semicolon", "\t": "tab", "|": "bar"}
 
 
@@ -54,31 +54,31 @@ class Market:
         if self.ids:
             # Some people have one name; IDs tell them apart.
             residents = [chance.choice(residents) for _ in residents]
-        self.programmes = {one: chance.randint(0, 12) for one in programmes}
-        self.residents = [(one, f"X{1000 + number}" if self.ids else "") for number, one in enumerate(residents)]
-        keys = [ident or one for one, ident in self.residents]
-        self.programme_lists = {one: chance.sample(keys, chance.randint(0, len(keys))) for one in programmes}
+        self.programmes = {programme: chance.randint(0, 12) for programme in programmes}
+        self.residents = [(resident, f"X{1000 + number}" if self.ids else "") for number, resident in enumerate(residents)]
+        keys = [ident or resident for resident, ident in self.residents]
+        self.programme_lists = {programme: chance.sample(keys, chance.randint(0, len(keys))) for programme in programmes}
         self.resident_lists = {key: chance.sample(programmes, chance.randint(0, len(programmes))) for key in keys}
 
     def wide(self) -> Tuple[List[List[str]], List[List[str]]]:
         most = [max(1, *map(len, lists.values())) for lists in (self.programme_lists, self.resident_lists)]
         programmes = [["Programme", "Places"] + [f"Rank {rank}" for rank in range(1, most[0] + 1)]]
-        programmes += [[one, str(places), *self.programme_lists[one]] for one, places in self.programmes.items()]
+        programmes += [[programme, str(places), *self.programme_lists[programme]] for programme, places in self.programmes.items()]
         residents = [["Applicant"] + ["ID"] * self.ids + [f"Rank {rank}" for rank in range(1, most[1] + 1)]]
-        residents += [[one] + [ident] * self.ids + self.resident_lists[ident or one] for one, ident in self.residents]
+        residents += [[resident] + [ident] * self.ids + self.resident_lists[ident or resident] for resident, ident in self.residents]
         return programmes, residents
 
     def long(self) -> Tuple[List[List[str]], List[List[str]]]:
         programmes, residents = [["Programme", "Places", "Rank", "Applicant"]], [
             ["Applicant"] + ["ID"] * self.ids + ["Rank", "Programme"]
         ]
-        for one, places in self.programmes.items():
-            listed = self.programme_lists[one]
-            programmes += [[one, str(places), str(rank), item] for rank, item in enumerate(listed, 1)] or [
-                [one, str(places), "", ""]
+        for programme, places in self.programmes.items():
+            listed = self.programme_lists[programme]
+            programmes += [[programme, str(places), str(rank), item] for rank, item in enumerate(listed, 1)] or [
+                [programme, str(places), "", ""]
             ]
-        for one, ident in self.residents:
-            begin, listed = [one] + [ident] * self.ids, self.resident_lists[ident or one]
+        for resident, ident in self.residents:
+            begin, listed = [resident] + [ident] * self.ids, self.resident_lists[ident or resident]
             residents += [begin + [str(rank), item] for rank, item in enumerate(listed, 1)] or [begin + ["", ""]]
         return programmes, residents
 
@@ -115,12 +115,12 @@ class Random(OfficeTest):
                 called[market.names.name("R", member.docket_name)] = member.id or member.name
             self.assertEqual(dict(market.quotas), given.programmes, seed)
             self.assertEqual(
-                {one: [called[item] for item in listed] for one, listed in market.programme_lists.items()},
+                {programme: [called[item] for item in listed] for programme, listed in market.programme_lists.items()},
                 given.programme_lists,
                 seed,
             )
             self.assertEqual(
-                {called[one]: list(listed) for one, listed in market.resident_lists.items()}, given.resident_lists, seed
+                {called[resident]: list(listed) for resident, listed in market.resident_lists.items()}, given.resident_lists, seed
             )
             # What the package makes of them is a docket without faults.
             self.assertEqual(office("lint", self.write("docket.csv", market.docket())), (0, "no fault\n", ""), seed)
@@ -141,7 +141,7 @@ class Random(OfficeTest):
             self.assertEqual(said.err, "", seed)
             lines = said.out.splitlines()
             self.assertLessEqual(len(lines), 24, seed)
-            self.assertTrue(all(one.isprintable() for one in lines), seed)
+            self.assertTrue(all(printed.isprintable() for printed in lines), seed)
             if said.status == 0:
                 taken += 1
                 self.nothing_is_lost(seed, files, texts)

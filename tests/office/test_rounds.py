@@ -22,7 +22,7 @@ def cells(path: Path) -> List[List[str]]:
     """The cells of a workbook's one sheet, read by the standard library's own reader."""
     with zipfile.ZipFile(path) as book:
         sheet = ElementTree.fromstring(book.read("xl/worksheets/sheet1.xml"))
-    return [["".join(one.itertext()) for one in row.iter(f"{MAIN}c")] for row in sheet.iter(f"{MAIN}row")]
+    return [["".join(cell.itertext()) for cell in row.iter(f"{MAIN}c")] for row in sheet.iter(f"{MAIN}row")]
 
 
 def table(path: Path) -> List[List[str]]:
@@ -106,7 +106,7 @@ class Rounds(OfficeTest):
         said = self.second()
         second = derived.match(derived.tables(SECOND_PROGRAMMES, SECOND_RESIDENTS))
         where = everywhere(self.made, second)
-        placed = len([one for one in where.values() if one[0]])
+        placed = len([placed_at for placed_at in where.values() if placed_at[0]])
         self.assertEqual((said.status, said.err), (0, ""))
         self.assertEqual(said.out.splitlines()[-2:], [f"after all rounds {placed} of 7 residents have a place",
                                                       f"audit: stable; replay: good; written to {self.folder / 'second'}"])
@@ -115,7 +115,7 @@ class Rounds(OfficeTest):
         self.assertEqual({row[0]: row[2:] for row in rows}, where)
         self.assertEqual([row[0] for row in rows], ["Ana Silva", "Fatima Kovács", "Jürgen Groß", "Kim Lee", "Omar Haddad", "Rosa Rossi", "Zoë Brontë"])
         standings = {row[0]: row[1] for row in rows}
-        self.assertEqual(standings, {name: "matched" if one[0] else "ranked back by nobody" for name, one in where.items()})
+        self.assertEqual(standings, {name: "matched" if placed_at[0] else "ranked back by nobody" for name, placed_at in where.items()})
         heading, *rows = table(self.folder / "second" / "earlier.csv")
         matches = table(self.first / "matches.csv")
         self.assertEqual([heading, *rows], [["round", *matches[0]], *(["1", *row] for row in matches[1:])])

@@ -497,15 +497,15 @@ class Writes(OfficeTest):
         self.addCleanup(resource.setrlimit, resource.RLIMIT_FSIZE, limit)
         no_links = mock.patch("os.link", side_effect=PermissionError(1, "Operation not permitted"))
         no_names = mock.patch("os.rename", side_effect=OSError(5, "Input/output error"))
-        for one in words:
+        for word in words:
             out = self.folder / "out"
             resource.setrlimit(resource.RLIMIT_FSIZE, (20, limit[1]))
-            said = office(*one, "--out", out)
+            said = office(*word, "--out", out)
             resource.setrlimit(resource.RLIMIT_FSIZE, limit)
             self.assertEqual((said.status, said.out, said.err), (
                 1, "", f"office: {out} can't be written: file too large; nothing was left there\n"))
             with no_links, no_names:
-                said = office(*one, "--out", out)
+                said = office(*word, "--out", out)
             self.assertEqual((said.status, said.out, said.err), (
                 1, "", f"office: {out} can't be written: input/output error; nothing was left there\n"))
             self.assertEqual(self.left(), before)

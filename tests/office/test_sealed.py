@@ -171,7 +171,7 @@ class Written(Sealed):
                     "sealed; $lists_root and $result_root are the published roots\n", False))
         hashes = [hashlib.sha256((match / name).read_bytes()).hexdigest() for name in ("docket.csv", "sheet.csv", "key.csv")]
         for path in (path for part in ("letters", "receipts", "rosters", "public") for path in (match / part).iterdir()):
-            self.assertEqual([one for one in hashes if one[:16] in path.read_text(encoding="utf-8")], [], path)
+            self.assertEqual([digest for digest in hashes if digest[:16] in path.read_text(encoding="utf-8")], [], path)
         template = self.write("letter.txt", "$$docket_sha256 of $name\n")
         letter = self.matched(sealed, "--template", template, out="own") / "letters" / "kim-lee.txt"
         self.assertEqual(letter.read_text(encoding="utf-8"), "$docket_sha256 of Kim Lee\n")

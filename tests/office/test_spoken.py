@@ -66,7 +66,7 @@ class Pair(NamedTuple):
         return self.chance.choice([at for at in range(1, len(rows)) if sum(map(bool, rows[at][first:])) >= least])
 
     def cells(self, table: str, text: str) -> List[Tuple[int, int]]:
-        return [(row, column) for row, texts in enumerate(getattr(self, table), 1) for column, one in enumerate(texts, 1) if one == text]
+        return [(row, column) for row, texts in enumerate(getattr(self, table), 1) for column, cell in enumerate(texts, 1) if cell == text]
 
     def replaced(self, old: str, new: str) -> None:
         for rows in (self.programmes, self.residents):
@@ -83,17 +83,17 @@ def drawn(words: Spoken, seed: str, shape: str = "wide") -> Pair:
     chance = random.Random(seed)
     people = [planted.person(number) for number in chance.sample(range(planted.RESIDENTS), 40)]
     lists = {name: chance.sample(planted.PROGRAMMES, 3) for name in people}
-    rankers = {one: [name for name in people if one in lists[name]] for one in planted.PROGRAMMES}
+    rankers = {programme: [name for name in people if programme in lists[name]] for programme in planted.PROGRAMMES}
     for listed in rankers.values():
         chance.shuffle(listed)
     if shape == "long":
         programmes = [["Programme", "Places", "Rank", "Applicant"]]
-        programmes += [[one, "2", str(rank), name] for one in rankers for rank, name in enumerate(rankers[one], 1)]
-        residents = [["Applicant", "Rank", "Programme"]] + [[name, str(rank), one] for name in people for rank, one in enumerate(lists[name], 1)]
+        programmes += [[ranker, "2", str(rank), name] for ranker in rankers for rank, name in enumerate(rankers[ranker], 1)]
+        residents = [["Applicant", "Rank", "Programme"]] + [[name, str(rank), programme] for name in people for rank, programme in enumerate(lists[name], 1)]
     else:
         most = max(map(len, rankers.values()))
         programmes = [["Programme", "Places", *(f"Rank {rank}" for rank in range(1, most + 1))]]
-        programmes += [[one, "2", *rankers[one], *[""] * (most - len(rankers[one]))] for one in rankers]
+        programmes += [[ranker, "2", *rankers[ranker], *[""] * (most - len(rankers[ranker]))] for ranker in rankers]
         residents = [["Applicant", "Rank 1", "Rank 2", "Rank 3"]] + [[name, *lists[name]] for name in people]
     programmes, residents = spoken.headed(words, programmes, residents)
     pair = Pair(programmes, residents, chance, words)
@@ -169,8 +169,8 @@ def a_name_that_nobody_has(pair):
 
 @mistake()
 def a_name_without_its_accents(pair):
-    row, name = pair.row(), pair.chance.choice([one for one in planted.PROGRAMMES if one == "Hôpital Saint-Éloi"])
-    pair.residents[row][1:] = ["Hopital Saint-Eloi", *[one for one in planted.PROGRAMMES if one != name][:2]]
+    row, name = pair.row(), pair.chance.choice([programme for programme in planted.PROGRAMMES if programme == "Hôpital Saint-Éloi"])
+    pair.residents[row][1:] = ["Hopital Saint-Eloi", *[programme for programme in planted.PROGRAMMES if programme != name][:2]]
     return [line("residents", [(row + 1, 2)], f"no programme is named Hopital Saint-Eloi; is it {name}?")]
 
 
@@ -340,7 +340,7 @@ class Languages(OfficeTest):
             programmes = [["Programme", "Places", "Rank", "Applicant"]] + [
                 [row[0], row[1], str(rank), name] for row in programmes[1:] for rank, name in enumerate(filter(None, row[2:]), 1)]
             residents = [["Applicant", "Rank", "Programme"]] + [
-                [row[0], rank, name] for row in residents[1:] for rank, name in [*((str(at), one) for at, one in enumerate(filter(None, row[1:]), 1))]
+                [row[0], rank, name] for row in residents[1:] for rank, name in [*((str(at), programme) for at, programme in enumerate(filter(None, row[1:]), 1))]
                 or [("", "")]]
         return spoken.headed(words, programmes, residents)
 
@@ -415,7 +415,7 @@ class Languages(OfficeTest):
 
     def test_the_words_of_one_language(self) -> None:
         """Those of two are never taken together, and the fault's advice is one that works."""
-        german, french = (self.rows(LANGUAGES[one], False) for one in ("German", "French"))
+        german, french = (self.rows(LANGUAGES[language], False) for language in ("German", "French"))
         mixed = [[german[1][0][0], *french[1][0][1:]], *german[1][1:]]
         read = steps.check(given(german[0]), given(mixed), Settings())
         self.assertEqual(sentences.report(read.faults), [
@@ -459,7 +459,7 @@ class Languages(OfficeTest):
         for words in LANGUAGES.values():
             programmes, residents = self.rows(words, False)
             width = len(residents[0]) + 2
-            titled = [["", words.title], [], ["", "2. 3. 2026"], *(["", one[0], "", *one[1:]] for one in residents)]
+            titled = [["", words.title], [], ["", "2. 3. 2026"], *(["", resident[0], "", *resident[1:]] for resident in residents)]
             read = steps.check(given([[*row[:2], "", *row[2:]] for row in programmes]), given(titled), Settings())
             self.assertEqual(sentences.report(read.faults), [])
             self.assertEqual(read.market.docket(), wanted)
@@ -478,7 +478,7 @@ class Languages(OfficeTest):
             read = steps.check(given(programmes), given(residents), Settings())
             self.assertEqual(sentences.report(read.faults), [])
             self.assertEqual(read.market.withdrawn_residents, ("Ana Silva", "Zoë Brontë"))
-            self.assertEqual([sentences.note(one) for one in read.notes()][0],
+            self.assertEqual([sentences.note(note) for note in read.notes()][0],
                              f"note: residents: the column {words.withdrawn} says who withdrew: Ana Silva, Zoë Brontë")
         text = "".join(",".join(row) + "\n" for row in residents)
         self.assertEqual(office("seal", *self.tables(), "--out", self.folder / "sealed").status, 0)
@@ -552,7 +552,7 @@ class Classes(OfficeTest):
             self.assertEqual((fault.code, sets[0], len(sets)), ("file.set", (encoding, names), 4), sets)
             for name, shown in sets:
                 self.assertEqual(shown, [text.encode(encoding).decode(name) for text in names])
-            self.assertEqual([(one.setting, one.value, one.table) for one in fault.remedies], [("encoding", name, "residents") for name, _ in sets])
+            self.assertEqual([(remedy.setting, remedy.value, remedy.table) for remedy in fault.remedies], [("encoding", name, "residents") for name, _ in sets])
             first = f"(--encoding residents=SET): {encoding} has {', '.join(names)}; {sets[1][0]} has "
             self.assertIn(first, sentences.line_of(fault))
             self.assertIsNotNone(steps.check(steps.Given("p", b"Programme,Places,Rank 1\nNorth,1,Anna Abel\n"),
@@ -593,7 +593,7 @@ class Classes(OfficeTest):
         families = sorted(family for _, family in people)
         residents = "First name,Last name,Rank 1\n" + "".join(f"{given},{family},North\n" for (given, _), family in zip(people, families))
         there = {f"{given} {family}" for (given, _), family in zip(people, families)}
-        gone = [(at, " ".join(one)) for at, one in enumerate(people) if " ".join(one) not in there]
+        gone = [(at, " ".join(person)) for at, person in enumerate(people) if " ".join(person) not in there]
         wanted = line("programmes", [(2, at + 3) for at, _ in gone], f"{len(gone)} names in these lists have the first name of one resident and the last "
                       f"name of another, as {gone[0][1]}: was one column sorted alone?")
         self.assertEqual([one for one in self.told(programmes, residents, allow_alike=True) if "note:" not in one and "row before" not in one], [wanted])

@@ -103,7 +103,7 @@ class Values(OfficeTest):
             ("programmes", "heading.none", 1), ("residents", "heading.unknown", 2), ("residents", "heading.beside", 0)])
         for text in ("Residents of,2026,,\n" + "x,a\x07b,,\n" * 30 + RESIDENTS, "a,b\nc,d\n", RESIDENTS.replace("Rank 2", "Rnak 2")):
             read = steps.check(GIVEN[0], steps.Given("r", text.encode()), Settings())
-            self.assertEqual([one for fault in read.faults.every() for one in fault.remedies if one.setting == "heading_row"], [], text[:30])
+            self.assertEqual([remedy for fault in read.faults.every() for remedy in fault.remedies if remedy.setting == "heading_row"], [], text[:30])
             self.assertEqual({fault.kind for fault in read.faults.every()}, {"heading"})
 
     def test_a_look_says_what_each_column_is(self) -> None:
@@ -121,7 +121,7 @@ class Folders(OfficeTest):
         told: list = []
         run = steps.Run(str(self.run_tables()))
         for name in ("Omar Haddad", "omar-haddad", " Omar  Haddad", "Omar Haddad (omar-haddad)"):
-            self.assertEqual([(one.programme, one.answer, one.rank, one.quota) for one in steps.why(run, name, progress=told.append)],
+            self.assertEqual([(why.programme, why.answer, why.rank, why.quota) for why in steps.why(run, name, progress=told.append)],
                              [("East Ward", "full", 2, 1), ("South Hospital", "full", 3, 1)])
         (one,) = steps.why(run, "Kim Lee", "west-infirmary")
         self.assertEqual((one.resident, one.programme, one.answer), ("Kim Lee", "West Infirmary", "better"))
@@ -282,7 +282,7 @@ class Apart(OfficeTest):
         entry, tail = parts[at:parts.index(name, at) + len(name)], bytearray(parts[end:])
         begin, rest = int.from_bytes(tail[16:20], "little"), parts[at + len(entry):end]
         self.assertFalse(rest)
-        more = b"".join(entry.replace(name, one) for one in others)
+        more = b"".join(entry.replace(name, other) for other in others)
         count = int.from_bytes(tail[8:10], "little") + len(others)
         tail[8:12], tail[12:16] = count.to_bytes(2, "little") * 2, (end - begin + len(more)).to_bytes(4, "little")
         read = steps.check(GIVEN[0], steps.Given("bomb.xlsx", parts[:end] + more + bytes(tail)), Settings(), limits=Limits(5, 300))
@@ -337,8 +337,8 @@ class Apart(OfficeTest):
         parts: list = []
         steps.linted(docket, parts.append)
         self.assertEqual([len(part) for part in parts], [1, 2, 4, 8, 16, 32, 64, 128, 256, 512, 1000, 977])
-        alone, together = [str(one) for one in steps.lint(docket)], []
-        threads = [threading.Thread(target=lambda: together.append([str(one) for one in steps.lint(docket)])) for _ in range(2)]
+        alone, together = [str(fault) for fault in steps.lint(docket)], []
+        threads = [threading.Thread(target=lambda: together.append([str(fault) for fault in steps.lint(docket)])) for _ in range(2)]
         for thread in threads:
             thread.start()
         for thread in threads:
@@ -380,7 +380,7 @@ class Apart(OfficeTest):
 
         does = (looked, lambda: steps.check(*GIVEN, Settings()).market.docket(),
                 lambda: steps.verify(out).verdict(), lambda: (steps.why(run, "Kim Lee"), steps.next(out), list(steps.lint(docket[5:]))))
-        alone, together = [one() for one in does], [[], [], [], []]
+        alone, together = [step() for step in does], [[], [], [], []]
 
         def again(place: int) -> None:
             for _ in range(3):
@@ -392,7 +392,7 @@ class Apart(OfficeTest):
             thread.start()
         for thread in threads:
             thread.join()
-        self.assertEqual(repr(together), repr([[one] * 3 for one in alone]))
+        self.assertEqual(repr(together), repr([[answer] * 3 for answer in alone]))
         self.assertEqual((children(os.getpid()) - before, os.getcwd(), alone[1]), (set(), folder, docket))
 
     def test_a_signal_at_any_moment_of_any_step(self) -> None:
@@ -424,7 +424,7 @@ class Apart(OfficeTest):
             for place in range(count):
                 shutil.rmtree(out, ignore_errors=True)
                 ends.add(self.stopped(step, stopping.SIGNALS[place % 3], whole * place / count))
-                self.assertEqual((os.listdir(temporary), [one for one in self.left() if one not in ("out", "new", "temporary")]), ([], []), name)
+                self.assertEqual((os.listdir(temporary), [name_left for name_left in self.left() if name_left not in ("out", "new", "temporary")]), ([], []), name)
                 self.assertEqual(out.exists(), (out / "SHA256SUMS").exists(), name)
             self.assertLessEqual(ends, {0, 1}, name)
             every |= ends
@@ -481,7 +481,7 @@ class Apart(OfficeTest):
                 said, err = running.communicate(timeout=20)
             self.assertEqual((running.returncode, said, err, len(readers)), (1, b"", b"office: interrupted\n", 1))
             self.assertEqual(self.left(), ["residents.xlsx"])
-            self.assertFalse(any(os.path.exists(f"/proc/{one}") for one in readers))
+            self.assertFalse(any(os.path.exists(f"/proc/{reader}") for reader in readers))
 
 
 class Sentences(unittest.TestCase):

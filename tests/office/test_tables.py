@@ -97,10 +97,10 @@ class Forms(Tables):
         programmes, residents = ["Programme\tRank\tApplicant\tPlaces"], ["applicant,rank,programme"]
         for row in PROGRAMMES.splitlines()[1:]:
             name, places, *listed = row.rstrip(",").split(",")
-            programmes += [f"{name}\t{rank}\t{one}\t{places if rank == 1 else ''}" for rank, one in enumerate(listed, 1)]
+            programmes += [f"{name}\t{rank}\t{resident}\t{places if rank == 1 else ''}" for rank, resident in enumerate(listed, 1)]
         for row in RESIDENTS.splitlines()[1:]:
             name, *listed = row.rstrip(",").split(",")
-            residents += [f"{name},{rank},{one}" for rank, one in enumerate(listed, 1)] or [f"{name},,"]
+            residents += [f"{name},{rank},{programme}" for rank, programme in enumerate(listed, 1)] or [f"{name},,"]
         self.same("\n".join(programmes), "\n".join(residents))
         # Rows in another order say the same of each list; members come in the order of their first rows.
         self.assertEqual(
@@ -413,10 +413,10 @@ class Limits(Tables):
     def test_as_many_pairs_as_may_be_and_one_more(self) -> None:
         """200,000 pairs who rank one another are none too many, though a list names one more who doesn't rank it back."""
         programmes = ["Programme,Places," + ",".join(map(str, range(1, 2002)))] + [
-            f"P{number},1," + ",".join(f"R{one}" for one in range(2001)) for number in range(100)
+            f"P{number},1," + ",".join(f"R{number}" for number in range(2001)) for number in range(100)
         ]
         residents = ["Applicant," + ",".join(map(str, range(1, 101)))] + [
-            f"R{number}," + ",".join(f"P{one}" for one in range(100)) for number in range(2000)
+            f"R{number}," + ",".join(f"P{number}" for number in range(100)) for number in range(2000)
         ]
         said = office("check", *self.tables("\n".join(programmes), "\n".join([*residents, "R2000," + "," * 99])))
         self.assertEqual((said.status, said.out.splitlines()[-1]), (0, "no fault"), said)

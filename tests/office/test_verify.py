@@ -117,7 +117,7 @@ class Verify(unittest.TestCase):
             (self.at / "page.html").unlink()
             amiss = steps.verify(str(self.at))
         self.assertEqual((done.lines, done.wrong, len(done.held), out.getvalue()), (told, [], 3, ""))
-        self.assertEqual([one.what for one in told if one.holds is None], [DOCKET, SHEET, "journal.csv", "members", "withdrawn"])
+        self.assertEqual([checked.what for checked in told if checked.holds is None], [DOCKET, SHEET, "journal.csv", "members", "withdrawn"])
         self.assertEqual((told[-1], told[-1].line()), (("files", "29 as made again", True), "files: 29 as made again"))
         self.assertEqual((amiss.lines[-2:], amiss.wrong, amiss.verdict()), (
             [("page.html", "missing", False), ("files", "1 file of 29 differ, are missing or are more", False)], ["files"],
@@ -393,7 +393,7 @@ class Verify(unittest.TestCase):
                 self.assertEqual(said.read().decode(), told)
             os.waitpid(asker, 0)
             self.assertLess(time.monotonic(), until, (whom, number))
-            while any(is_alive(one) for one in (reader, program)):
+            while any(is_alive(pid) for pid in (reader, program)):
                 self.assertLess(time.monotonic(), until, (whom, number))
                 time.sleep(0.01)
             there.unlink()

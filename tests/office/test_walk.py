@@ -42,7 +42,7 @@ class Walk(OfficeTest):
         self.step(["check", *files], [*read, "no fault"])
         placed = [name for name, where in given.match.items() if where]
         back = [name for name in given.match if name not in placed and given.ranked_back(name)]
-        left = sum(places - len(given.members(one)) for one, places in given.places.items())
+        left = sum(places - len(given.members(programme)) for programme, places in given.places.items())
         counts = f"{len(placed)} of {len(given.match)} residents matched, {len(back)} lost out, {len(given.match) - len(placed) - len(back)} ranked back by nobody"
         self.step(["run", *files, "--out", at / "first", "--date", "2026-03-20", "--language", language],
                   [*read, f"{counts}; {left} of {sum(given.places.values())} places unfilled", f"audit: stable; replay: good; written to {at / 'first'}"])
@@ -50,7 +50,7 @@ class Walk(OfficeTest):
         done = self.step(["verify", at / "first", "--tables", *files])
         self.assertIn("the result, the journal of ", done[-1])
         self.assertNotIn("not checked", done[-1])
-        free = {one: places - len(given.members(one)) for one, places in given.places.items() if places > len(given.members(one))}
+        free = {programme: places - len(given.members(programme)) for programme, places in given.places.items() if places > len(given.members(programme))}
         still = [name for name in given.match if name not in placed]
         self.step(["next", at / "first", "--out", at / "next"],
                   [f"{len(free)} programmes with free places, {len(still)} unmatched residents; written to {at / 'next'}"])
@@ -74,14 +74,14 @@ class Walk(OfficeTest):
         for page, names in (("letters.html", given.match), ("rosters.html", given.places)):
             text = (out / page).read_text(encoding="utf-8")
             self.assertRegex(text, r"article \+ article \{ break-before: page; \}")
-            articles = {one.attributes["aria-label"]: " ".join(one.text().split()) for one in Tree(text).root.all("article")}
+            articles = {article.attributes["aria-label"]: " ".join(article.text().split()) for article in Tree(text).root.all("article")}
             self.assertEqual(set(articles), set(names))
             for name, said in articles.items():
                 if page == "letters.html" and given.match[name]:
                     self.assertIn(words["matched"].format(given.match[name], words["nth"](given.choice(name)), len(given.resident_lists[name])), said)
                 if page == "rosters.html":
                     self.assertIn(words["filled"](len(given.members(name)), given.places[name]), said)
-                    self.assertEqual([one for one in given.match if one in said], [one for one in given.match if given.match[one] == name])
+                    self.assertEqual([resident for resident in given.match if resident in said], [resident for resident in given.match if given.match[resident] == name])
         self.assertEqual(len(list((out / "letters").iterdir())), len(given.match))
         self.assertEqual(len(list((out / "rosters").glob("*.txt"))), len(given.places))
 
@@ -98,11 +98,11 @@ class Walk(OfficeTest):
         made = derived.match(derived.Derived(free, {row[0]: row[2:] for row in first[1:]}, {row[0]: row[1:] for row in second[1:]}, {}))
         files = [self.write("p.xlsx", planted.book(first)), self.write("r.xlsx", planted.book(second))]
         where = everywhere(given, made)
-        placed = [name for name, one in where.items() if one[0]]
+        placed = [name for name, placed_at in where.items() if placed_at[0]]
         told = self.step(["run", *files, "--after", at / "first", "--out", at / "second", "--date", "2026-04-20", "--language", "en" if words is WORDS["en"] else "de"])
         self.assertEqual(told[-2:], [f"after all rounds {len(placed)} of {len(where)} residents have a place", f"audit: stable; replay: good; written to {at / 'second'}"])
         heading, *rows = table(at / "second" / "results.csv")
-        self.assertEqual([re.sub("^Wahl$", "Choice", one) for one in heading], words["results"])
+        self.assertEqual([re.sub("^Wahl$", "Choice", cell) for cell in heading], words["results"])
         self.assertEqual({row[0]: row[2:] for row in rows}, where)
         done = self.step(["verify", at / "second", "--after", at / "first", "--tables", *files])
         self.assertNotIn("not checked", done[-1])

@@ -86,7 +86,7 @@ class Page(unittest.TestCase):
         self.assertEqual(doctest.DocTestRunner(verbose=False).run(test, out=lambda text: self.fail(text)), (0, 1))
 
     def test_the_offices_steps(self):
-        (block,) = [one for one in blocks() if "steps.check" in one]
+        (block,) = [text for text in blocks() if "steps.check" in text]
         test = doctest.DocTestParser().get_doctest(block, {}, "python.md", "docs/python.md", 0)
         self.assertEqual(doctest.DocTestRunner(verbose=False).run(test, out=self.fail), (0, 14))
 
@@ -95,7 +95,7 @@ class Page(unittest.TestCase):
             owner, _, last = name.rpartition(".")
             of = residency.Market if owner in ("Market", "market") else residency
             self.assertTrue(hasattr(of, last) or hasattr(residency.Match, last), name)
-        errors = {name for name, one in vars(residency).items() if isinstance(one, type) and issubclass(one, Exception)}
+        errors = {name for name, value in vars(residency).items() if isinstance(value, type) and issubclass(value, Exception)}
         for name in errors - {"ProgramError"}:
             self.assertIn(f"`{name}`", PAGE)
 
@@ -111,15 +111,15 @@ class Modules(unittest.TestCase):
 
     def functions(self, module):
         """The public functions of a module and of its classes, by name; each class and function has a docstring."""
-        for name, one in vars(module).items():
-            if name.startswith("_") or getattr(one, "__module__", None) != module.__name__:
+        for name, value in vars(module).items():
+            if name.startswith("_") or getattr(value, "__module__", None) != module.__name__:
                 continue
-            if inspect.isfunction(one):
-                self.assertTrue(one.__doc__, name)
-                yield name, one
-            elif inspect.isclass(one):
-                self.assertTrue(one.__doc__, name)
-                for inner, method in vars(one).items():
+            if inspect.isfunction(value):
+                self.assertTrue(value.__doc__, name)
+                yield name, value
+            elif inspect.isclass(value):
+                self.assertTrue(value.__doc__, name)
+                for inner, method in vars(value).items():
                     function = getattr(method, "__func__", method)
                     written = inspect.isfunction(function) and function.__code__.co_filename == module.__file__
                     if written and (inner == "__init__" or not inner.startswith("_")):

@@ -37,7 +37,7 @@ class Games(unittest.TestCase):
         self.assertEqual(names(game.matching), {"a": ["z", "x"], "b": ["y"]})
         self.assertEqual(repr(game.matching), "{a: [z, x], b: [y]}")
         self.assertEqual([each.matching.name for each in game.residents], ["a", "b", "a"])
-        self.assertEqual([[one.name for one in each.matching] for each in game.hospitals], [["z", "x"], ["y"]])
+        self.assertEqual([[player.name for player in each.matching] for each in game.hospitals], [["z", "x"], ["y"]])
         self.assertEqual((game.check_validity(), game.check_stability(), game.blocking_pairs), (True, True, []))
         # A second time, the same.
         self.assertEqual(names(game.solve("hospital")), {"a": ["z", "x"], "b": ["y"]})

@@ -151,11 +151,11 @@ class Exceptions(unittest.TestCase):
             self.assertEqual(str(KeyFault(*words)), said)
 
     def test_they_can_be_sent_to_another_process(self):
-        for one in (DocketFault(3, "unknown name", 4, "kim", "cell 4: kim"), MarketFault(["a", "b"]), KeyFault(1, "a", 2),
+        for fault in (DocketFault(3, "unknown name", 4, "kim", "cell 4: kim"), MarketFault(["a", "b"]), KeyFault(1, "a", 2),
                     ProgramMissing("a"),
                     ProgramTimeout("a", 0.5), ProgramFailed(1, "a"), UnknownStatus(-9, "a")):
-            again = pickle.loads(pickle.dumps(one))
-            self.assertEqual((type(again), str(again), vars(again)), (type(one), str(one), vars(one)))
+            again = pickle.loads(pickle.dumps(fault))
+            self.assertEqual((type(again), str(again), vars(again)), (type(fault), str(fault), vars(fault)))
 
 
 class Running(Folders):

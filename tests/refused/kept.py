@@ -34,10 +34,10 @@ def sum_of(top: str, crates: List[str], listed: Dict[str, str], toolchain: str) 
     return made.hexdigest()
 
 
-def is_same(one: str, other: str) -> bool:
+def is_same(text: str, other: str) -> bool:
     """Whether two folders of a crate have the same texts."""
     texts: List[Dict[str, bytes]] = []
-    for folder in (one, other):
+    for folder in (text, other):
         texts.append({})
         for path in [it for part in PARTS for it in files_below(f"{folder}/{part}")]:
             with open(path, "rb") as file:

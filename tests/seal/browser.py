@@ -101,7 +101,7 @@ class Chromium:
         self.events.clear()
         self.ask("Page.navigate", url=address)
         end = time.monotonic() + SECONDS
-        while not any(one.get("method") == "Page.loadEventFired" for one in self.events):
+        while not any(event.get("method") == "Page.loadEventFired" for event in self.events):
             self.read(end)
 
     def value(self, text: str) -> Any:
@@ -132,15 +132,15 @@ class Chromium:
     def spoken(self) -> List[str]:
         """The roles and names that a screen reader is given."""
         nodes = self.ask("Accessibility.getFullAXTree")["nodes"]
-        return [f"{one['role']['value']}: {one.get('name', {}).get('value', '')}".strip() for one in nodes if not one.get("ignored")]
+        return [f"{node['role']['value']}: {node.get('name', {}).get('value', '')}".strip() for node in nodes if not node.get("ignored")]
 
     def requests(self) -> List[str]:
         """What the page asked of the network since it was opened, but for itself."""
-        asked = [one["params"]["request"]["url"] for one in self.events if one.get("method") == "Network.requestWillBeSent"]
+        asked = [event["params"]["request"]["url"] for event in self.events if event.get("method") == "Network.requestWillBeSent"]
         return [url for url in asked if not url.startswith("file://")]
 
     def complaints(self) -> List[str]:
-        return [str(one["params"]) for one in self.events if one.get("method") in ("Log.entryAdded", "Runtime.exceptionThrown")]
+        return [str(event["params"]) for event in self.events if event.get("method") in ("Log.entryAdded", "Runtime.exceptionThrown")]
 
     def picture(self) -> bytes:
         """The whole page as a picture (PNG)."""

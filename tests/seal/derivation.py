@@ -30,7 +30,7 @@ class Market(NamedTuple):
         rows = [["V", "2"]] * bool(self.gone) + [["Q", name, zeros + str(quota)] for name, quota in self.quotas.items()]
         rows += [["P", name, *listed] for name, listed in self.programme_lists.items()]
         rows += [["R", name, *listed] for name, listed in self.resident_lists.items()]
-        return text_of(rows + [["W", *one] for one in self.gone])
+        return text_of(rows + [["W", *member] for member in self.gone])
 
 
 Places = Dict[str, Optional[str]]
@@ -72,7 +72,7 @@ def match(market: Market) -> Places:
 
 
 def sheet(market: Market, places: Places) -> bytes:
-    rows: List[Sequence[object]] = [("U", one) if where is None else ("M", one, where) for one, where in places.items()]
+    rows: List[Sequence[object]] = [("U", resident) if where is None else ("M", resident, where) for resident, where in places.items()]
     filled = list(places.values())
     counts = {name: 0 for name in market.quotas}
     for where in filled:
@@ -88,11 +88,11 @@ class Sealed:
         self.market, self.secret = market, secret
         self.names = market.members()
         self.gone = set(market.gone)
-        self.lists = [self.list_text(*one) for one in self.names]
+        self.lists = [self.list_text(*name) for name in self.names]
         self.results: Optional[List[bytes]] = None
         if places is not None:
             told = Results(market, places)
-            self.results = [told.text(*one) for one in self.names]
+            self.results = [told.text(*name) for name in self.names]
 
     def list_text(self, side: str, name: str) -> bytes:
         market = self.market
@@ -125,7 +125,7 @@ class Sealed:
 
     def bundle(self) -> bytes:
         """All receipts, each after a row of its member."""
-        return b"".join(text_of([("member", *one)]) + receipt for one, receipt in zip(self.names, self.receipts()))
+        return b"".join(text_of([("member", *member)]) + receipt for member, receipt in zip(self.names, self.receipts()))
 
 
 class Results:
@@ -133,21 +133,21 @@ class Results:
 
     def __init__(self, market: Market, places: Places) -> None:
         self.market, self.places, self.gone = market, places, set(market.gone)
-        self.rank = {name: {one: place for place, one in enumerate(listed, 1)} for name, listed in market.programme_lists.items()}
+        self.rank = {name: {resident: place for place, resident in enumerate(listed, 1)} for name, listed in market.programme_lists.items()}
         self.residents: Dict[str, List[str]] = {name: [] for name in market.quotas}
-        for one, where in places.items():
+        for resident, where in places.items():
             if where is not None:
-                self.residents[where].append(one)
-        self.last = {name: max((self.rank[name][one] for one in those), default=0) for name, those in self.residents.items()}
+                self.residents[where].append(resident)
+        self.last = {name: max((self.rank[name][resident] for resident in those), default=0) for name, those in self.residents.items()}
 
     def text(self, side: str, name: str) -> bytes:
         if side == "P":
             those = self.residents[name]
             rows: List[Sequence[object]] = [("F", name, len(those), self.market.quotas[name])]
-            return text_of(rows + [("M", one, name) for one in those])
+            return text_of(rows + [("M", resident, name) for resident in those])
         where = self.places[name]
         rows = [("U", name) if where is None else ("M", name, where)]
-        return text_of(rows + [self.reason(name, choice, one) for choice, one in enumerate(self.market.resident_lists[name], 1)])
+        return text_of(rows + [self.reason(name, choice, programme) for choice, programme in enumerate(self.market.resident_lists[name], 1)])
 
     def reason(self, name: str, choice: int, programme: str) -> Sequence[object]:
         listed, where = self.market.resident_lists[name], self.places[name]
@@ -193,10 +193,10 @@ class Shown(NamedTuple):
             lines.append(f"The sealed result has you {f'matched with {self.where}' if self.where else 'unmatched'}.")
         says = {"matched": "you are matched there", "withdrawn": "you or the programme is withdrawn", "unranked": "it did not rank you",
                 "better": "you have a programme that you ranked higher"}
-        for _, one, _, answer, rank, last, quota in self.reasons:
+        for _, programme, _, answer, rank, last, quota in self.reasons:
             ends: Dict[object, str] = {0: ", and it has no places", 1: f". Its place went to a resident it ranked higher, {ordinal(last)}"}
             more = f". Its {quota} places went to residents it ranked higher, the last of them {ordinal(last)}"
-            lines.append(f"{one}: {says[str(answer)] if answer != 'full' else f'it ranked you {ordinal(rank)}{ends.get(quota, more)}'}.")
+            lines.append(f"{programme}: {says[str(answer)] if answer != 'full' else f'it ranked you {ordinal(rank)}{ends.get(quota, more)}'}.")
         return "".join(f"{line}\n" for line in lines)
 
     def by_page(self) -> List[object]:
@@ -240,7 +240,7 @@ def shown_in(market: Market, places: Optional[Places], side: str, name: str) -> 
     """What the receipt of a member shows, by the docket."""
     is_programme, told = side == "P", Results(market, places or {})
     listed = market.programme_lists.get(name, []) if is_programme else market.resident_lists[name]
-    reasons = [] if is_programme or places is None else [told.reason(name, choice, one) for choice, one in enumerate(listed, 1)]
+    reasons = [] if is_programme or places is None else [told.reason(name, choice, programme) for choice, programme in enumerate(listed, 1)]
     return Shown(side, name, (side, name) in set(market.gone), market.quotas[name] if is_programme else 0, listed, places is not None,
                  None if is_programme else (places or {}).get(name), told.residents[name] if is_programme else [], reasons, market.names.get((side, name), ("", "")))
 
@@ -391,10 +391,10 @@ class Content:
             lists = [["Q", name, self.quota]] + [["P", name, *self.listed]] * self.has_list if side == "P" else [["R", name, *self.listed]]
             return lists + [["W", side, name]] * self.is_gone + ([] if self.real is None else [["N", self.real]])
         if side == "P":
-            return [["F", name, str(len(self.after)), self.quota], *(["M", one, name] for one in self.members())]
+            return [["F", name, str(len(self.after)), self.quota], *(["M", member, name] for member in self.members())]
         answers = (self.after + [[]] * len(self.listed))[:len(self.listed)]
         return [["U", name] if self.own is None else ["M", name, self.own],
-                *([name, one, str(choice), *row[3:]] for choice, (one, row) in enumerate(zip(self.listed, answers), 1))]
+                *([name, programme, str(choice), *row[3:]] for choice, (programme, row) in enumerate(zip(self.listed, answers), 1))]
 
     def members(self) -> List[str]:
         return [row[1] if len(row) > 1 else "" for row in self.after]
@@ -411,8 +411,8 @@ def shown_by(receipt: bytes, roots: Dict[str, Tuple[int, str]]) -> Shown:
     told = Content(plain(receipt), roots)
     is_programme, has_result = told.side == "P", "result" in roots
     reasons = [] if is_programme or not has_result else [
-        (told.name, one, choice, row[3], *(int(digits) if digits else "" for digits in row[4:]))
-        for choice, (one, row) in enumerate(zip(told.listed, told.after), 1)]
+        (told.name, programme, choice, row[3], *(int(digits) if digits else "" for digits in row[4:]))
+        for choice, (programme, row) in enumerate(zip(told.listed, told.after), 1)]
     return Shown(told.side, told.name, told.is_gone, int(told.quota) if is_programme else 0, told.listed, has_result, told.own,
                  told.members() if is_programme and has_result else [], reasons, ("", "") if told.real is None else real_of(told, 0))
 
@@ -449,21 +449,21 @@ def want_open(told: Content, word: str, row: int) -> None:
     """The opening climbs to the published root."""
     digests, index, count = told.paths[word], int(told.index), int(told.count)
     want(digests and all(map(is_digest, digests)), row, "opening row")
-    sides, path = siblings(index, count) if index < count else None, [bytes.fromhex(one) for one in digests[1:]]
+    sides, path = siblings(index, count) if index < count else None, [bytes.fromhex(digest) for digest in digests[1:]]
     want(sides is not None and len(sides) == len(path), row, "opening")
     top = sha(b"\0", bytes.fromhex(digests[0]), "".join(",".join(line) + "\n" for line in told.leaf(word)).encode("latin-1"))
-    for side, one in zip(sides or [], path):
-        top = sha(b"\1", one, top) if side == "left" else sha(b"\1", top, one)
+    for side, sibling in zip(sides or [], path):
+        top = sha(b"\1", sibling, top) if side == "left" else sha(b"\1", top, sibling)
     want(counted(count, top) == told.roots[word][1], row, "opening")
 
 
 def want_names(names: Sequence[str], row: Callable[[int], int], listed: Optional[Sequence[str]] = None) -> None:
     seen = set()
-    for place, one in enumerate(names):
-        want(re.fullmatch(f"{NAME}{{1,32}}", one), row(place), "name")
-        want(listed is None or one in listed, row(place), "not listed")
-        want(one not in seen, row(place), "twice")
-        seen.add(one)
+    for place, name in enumerate(names):
+        want(re.fullmatch(f"{NAME}{{1,32}}", name), row(place), "name")
+        want(listed is None or name in listed, row(place), "not listed")
+        want(name not in seen, row(place), "twice")
+        seen.add(name)
 
 
 # Marks of direction, which are no control characters by their category.
@@ -493,7 +493,7 @@ def want_answer(told: Content, choice: int, row: int) -> None:
     answer, *numbers = (told.after[choice] if choice < len(told.after) else [])[3:] or [""]
     stand = "before" if place is None or choice < place else "at" if choice == place else "after"
     is_bare = numbers == ["", "", ""]
-    rank, last, quota = [int(one) if is_number(one) else None for one in numbers] if len(numbers) == 3 else [None] * 3
+    rank, last, quota = [int(number) if is_number(number) else None for number in numbers] if len(numbers) == 3 else [None] * 3
     is_full = rank is not None and quota is not None and (1 <= quota <= last < rank if last is not None else numbers[1] == "" and quota == 0 and rank >= 1)
     right = is_bare and answer == "withdrawn" if told.is_gone else answer == "full" and is_full and stand == "before" or answer in ANSWERS[stand] and is_bare and answer != "full"
     want(right, row, "full" if answer == "full" else "reason")
@@ -568,7 +568,7 @@ class Pair(NamedTuple):
         return self.what.startswith("agree")
 
     def sentence(self) -> str:
-        values = {key: ordinal(one) if key in RANKS else one for key, one in self.values.items()}
+        values = {key: ordinal(value) if key in RANKS else value for key, value in self.values.items()}
         return "{resident} and {programme} {0}: {1}.".format(self.what.partition(".")[0], SENTENCES[self.what].format(**values), **values)
 
 
@@ -578,12 +578,12 @@ Asked = Tuple[str, object, object]
 
 def asked_of(resident: Shown, programme: Shown) -> Tuple[List[Asked], Dict[str, object]]:
     """What is asked of a pair, in order, where the programme is on the resident's list; and the values of what is said."""
-    place = {one: rank for rank, one in enumerate(programme.listed, 1)}
-    gone, rank = [one.name for one in (resident, programme) if one.is_gone], place.get(resident.name)
+    place = {name: rank for rank, name in enumerate(programme.listed, 1)}
+    gone, rank = [side.name for side in (resident, programme) if side.is_gone], place.get(resident.name)
     answer, said_rank, said_last, said_quota = next(reason[3:] for reason in resident.reasons if reason[1] == programme.name)
     asked: List[Asked] = [("withdrawn", answer == "withdrawn", bool(gone)), ("unranked", answer == "unranked", rank is None and not gone),
                           ("matched", answer == "matched", resident.name in programme.filled)]
-    last, filled = max((place[one] for one in programme.filled if one in place), default=""), len(programme.filled)
+    last, filled = max((place[name] for name in programme.filled if name in place), default=""), len(programme.filled)
     if answer == "full":
         asked += [("rank", said_rank, rank), ("quota", said_quota, programme.quota), ("filled", programme.quota, filled), ("last", said_last, last)]
     return asked, {"name": "".join(gone[:1]), "answer": answer, "rank": said_rank, "last": said_last, "quota": said_quota, "places": programme.quota, "filled": filled}
@@ -661,7 +661,7 @@ def folder_said(files: Mapping[str, bytes], folder: str, roots: Roots) -> Tuple[
     """The status, and what is written and told of a folder with these files: all receipts are compared with each other. A file whose name
     begins with a dot is passed over."""
     told: Dict[Tuple[str, str], Shown] = {}
-    for name in sorted((one for one in files if not one.startswith(".")), key=os.fsencode):
+    for name in sorted((file for file in files if not file.startswith(".")), key=os.fsencode):
         wrong = compared_fault(files[name], roots)
         if wrong is None:
             shown = shown_by(files[name], roots)
@@ -669,9 +669,9 @@ def folder_said(files: Mapping[str, bytes], folder: str, roots: Roots) -> Tuple[
             told[shown.side, shown.name] = shown
         if wrong:
             return 3, "", f"residency: {folder}/{name}: {by_words(wrong)[1]}"
-    pairs = [pair_of(resident, told["P", one]) for (side, _), resident in told.items() if side == "R" for one in resident.listed if ("P", one) in told]
-    pairs += [pair_of(told["R", one], programme) for (side, name), programme in told.items() if side == "P"
-              for one in programme.filled if ("R", one) in told and name not in told["R", one].listed]
+    pairs = [pair_of(resident, told["P", programme]) for (side, _), resident in told.items() if side == "R" for programme in resident.listed if ("P", programme) in told]
+    pairs += [pair_of(told["R", name_filled], programme) for (side, name), programme in told.items() if side == "P"
+              for name_filled in programme.filled if ("R", name_filled) in told and name not in told["R", name_filled].listed]
     lines, count = [pair.sentence() for pair in pairs if not pair.agree], roots["lists"][0]
     is_stable = len(told) == count and not lines
     lines = [*lines, f"{len(told)} of {count} members are there, and {len(pairs)} pairs were compared: {len(lines)} differ.", *["The placement is stable."] * is_stable]

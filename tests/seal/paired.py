@@ -22,7 +22,7 @@ class Two(NamedTuple):
 
 
 def roots_of(sealed: Sealed) -> Roots:
-    return {word: (len(sealed.names), one.root) for word, one in sealed.trees().items()}
+    return {word: (len(sealed.names), tree.root) for word, tree in sealed.trees().items()}
 
 
 def two_of(what: str, sealed: Sealed, resident: str, programme: str, said: str = "") -> Two:
@@ -188,7 +188,7 @@ def any_lie(luck: random.Random, sealed: Sealed, at: int) -> None:
         if way and ["W", "P", name] not in lists and luck.random() < 0.5:
             those = [row[1] for row in result[1:] if row[1] in listed][:quota]
         lists = [["Q", name, str(quota)]] + [["P", name, *listed]] * bool(listed) + [row for row in lists if row[0] in ("W", "N")]
-        result = [["F", name, str(len(those)), str(quota)], *(["M", one, name] for one in those)]
+        result = [["F", name, str(len(those)), str(quota)], *(["M", resident, name] for resident in those)]
     sealed.lists[at], sealed.results[at] = text_of(lists), text_of(result)
 
 
@@ -202,7 +202,7 @@ def any_two(luck: random.Random, market: Market) -> Two:
     for _ in range(luck.choice((0, 1, 1, 2))):
         any_lie(luck, sealed, luck.choice(at))
     receipts, roots = sealed.receipts(), roots_of(sealed)
-    given = [receipts[one] for one in at]
+    given = [receipts[index] for index in at]
     way = luck.randrange(30)
     if way == 0:
         given.reverse()
@@ -220,7 +220,7 @@ def any_two(luck: random.Random, market: Market) -> Two:
 def any_pairs(luck: random.Random, market_of: Callable[[random.Random], Market], count: int) -> List[Two]:
     """Pairs of random dockets, honest and with lies."""
     markets = (market_of(luck) for _ in itertools.count())
-    return [any_two(luck, market) for market in itertools.islice((one for one in markets if one.quotas and one.resident_lists), count)]
+    return [any_two(luck, market) for market in itertools.islice((market for market in markets if market.quotas and market.resident_lists), count)]
 
 
 # -- folders
@@ -250,9 +250,9 @@ def folders(market: Market, places: Places) -> Iterator[Folder]:
     stable = "8 of 8 members are there, and 12 pairs were compared: 0 differ.\nThe placement is stable.\n"
     yield Folder("the example", whole, roots, (0, stable, ""))
     yield Folder("nothing", {}, roots, (4, "0 of 8 members are there, and 0 pairs were compared: 0 differ.\n", ""))
-    yield Folder("without Sunny", {name: one for name, one in whole.items() if name != sunny}, roots,
+    yield Folder("without Sunny", {name: receipt for name, receipt in whole.items() if name != sunny}, roots,
                  (4, "7 of 8 members are there, and 10 pairs were compared: 0 differ.\n", ""))
-    yield Folder("without City", {name: one for name, one in whole.items() if name != city}, roots,
+    yield Folder("without City", {name: receipt for name, receipt in whole.items() if name != city}, roots,
                  (4, "7 of 8 members are there, and 7 pairs were compared: 0 differ.\n", ""))
     yield Folder("one receipt", {sunny: whole[sunny]}, roots, (4, "1 of 8 members are there, and 0 pairs were compared: 0 differ.\n", ""))
     yield Folder("Sunny twice", {**whole, "zoe.txt": whole[sunny]}, roots, (3, "", "residency: {}/zoe.txt: row 3: a member whose receipt is in a file before this one\n"))
@@ -263,9 +263,9 @@ def folders(market: Market, places: Places) -> Iterator[Folder]:
     yield Folder("an altered receipt", {**whole, city: swapped(whole[city], b"Darrius,Arthur", b"Arthur,Darrius")}, roots,
                  (3, "", "residency: {}/001.txt: row 3: what follows doesn't open the published root\n"))
     yield Folder("two altered receipts", {**whole, sunny: whole[sunny][:-1], city: whole[city] + b"\n"}, roots)
-    yield Folder("an altered receipt under a name of bytes above ASCII", {**{f"é{name}": one for name, one in whole.items()}, "z.txt": whole[sunny][:-1]}, roots)
+    yield Folder("an altered receipt under a name of bytes above ASCII", {**{f"é{name}": receipt for name, receipt in whole.items()}, "z.txt": whole[sunny][:-1]}, roots)
     yield Folder("files whose names begin with a dot", {**whole, ".notes": b"Notes\n", ".000.txt": whole[sunny], "..x": b""}, roots, (0, stable, ""))
-    yield Folder("a receipt under a name that begins with a dot", {name if name != sunny else ".004.txt": one for name, one in whole.items()}, roots,
+    yield Folder("a receipt under a name that begins with a dot", {name if name != sunny else ".004.txt": receipt for name, receipt in whole.items()}, roots,
                  (4, "7 of 8 members are there, and 10 pairs were compared: 0 differ.\n", ""))
     yield Folder("a file that is no receipt", {**whole, "notes.txt": b"Notes\n"}, roots)
     yield Folder("a receipt of another secret", {**whole, "007.txt": Sealed(market, places, bytes(32)).receipts()[7]}, roots)
@@ -276,7 +276,7 @@ def folders(market: Market, places: Places) -> Iterator[Folder]:
     yield Folder("the roots exchanged", whole, {"lists": roots["result"], "result": roots["lists"]})
     twins = Sealed(market, places)
     twins.lists[5], twins.results = twins.lists[4], [*(twins.results or [])[:5], (twins.results or [])[4], *(twins.results or [])[6:]]
-    swapped_name = [one.replace(b"receipt,2,R,Joseph", b"receipt,2,R,Sunny") for one in twins.receipts()]
+    swapped_name = [receipt.replace(b"receipt,2,R,Joseph", b"receipt,2,R,Sunny") for receipt in twins.receipts()]
     yield Folder("two members of one name", dict(zip(whole, swapped_name)), roots_of(twins))
     small = Sealed(SMALL, derivation.match(SMALL))
     yield Folder("the small market", files_of(small), roots_of(small), (0, "6 of 6 members are there, and 6 pairs were compared: 0 differ.\nThe placement is stable.\n", ""))
@@ -298,7 +298,7 @@ def many(market: Market) -> Iterator[Folder]:
     count = sum(map(len, market.resident_lists.values()))
     yield Folder(f"{len(files)} files", files, roots, (0, f"{len(files)} of {len(files)} members are there, and {count} pairs were compared: 0 differ.\nThe placement is stable.\n", ""))
     last = sorted(files)[-1]
-    yield Folder(f"{len(files) - 1} files", {name: one for name, one in files.items() if name != last}, roots)
+    yield Folder(f"{len(files) - 1} files", {name: receipt for name, receipt in files.items() if name != last}, roots)
     yield Folder("another match in the last of many files", {**files, last: Sealed(market, derivation.match(market), bytes(32)).receipts()[-1]}, roots)
 
 
@@ -343,16 +343,16 @@ def any_small(luck: random.Random) -> Small:
     p_names, r_names = ["p", "q", "s"][:luck.randint(1, 3)], ["a", "b", "c", "d"][:luck.randint(2, 4)]
     lists = {name: luck.sample(r_names, luck.randint(0, len(r_names))) for name in p_names if luck.random() < 0.95}
     wishes = {name: luck.sample(p_names, luck.randint(0, len(p_names))) for name in r_names}
-    gone = [one for one in [("P", name) for name in p_names] + [("R", name) for name in r_names] if luck.random() < 0.07]
+    gone = [member for member in [("P", name) for name in p_names] + [("R", name) for name in r_names] if luck.random() < 0.07]
     market = Market({name: luck.choice((0, 1, 1, 2, 3)) for name in p_names}, lists, wishes, gone)
     way, places = luck.randrange(10), derivation.match(market)
     if way > 2:
         places = dict.fromkeys(r_names)
         for name in luck.sample(r_names, len(r_names)):
-            fits = [one for one in wishes[name] if name in lists.get(one, []) and list(places.values()).count(one) < market.quotas[one]
-                    and not {("R", name), ("P", one)} & set(gone)]
+            fits = [programme for programme in wishes[name] if name in lists.get(programme, []) and list(places.values()).count(programme) < market.quotas[programme]
+                    and not {("R", name), ("P", programme)} & set(gone)]
             places[name] = luck.choice([*fits, None]) if way < 9 else luck.choice([*p_names, None])
-    residents: Dict[str, List[str]] = {one: [name for name, where in places.items() if where == one] for one in p_names}
+    residents: Dict[str, List[str]] = {programme: [name for name, where in places.items() if where == programme] for programme in p_names}
     if way == 2:
         one = luck.choice(p_names)
         residents[one] = luck.sample(r_names, luck.randint(0, len(r_names)))
@@ -363,22 +363,22 @@ def is_stable(small: Small) -> bool:
     """Whether residents and programmes are told one placement, everybody who is placed is listed, in a place that is there, and no two
     who are apart would both rather be together."""
     market, places, residents = small.market, small.places, small.residents
-    if any((places[name] == one) != (name in those) for one, those in residents.items() for name in places):
+    if any((places[name] == programme) != (name in those) for programme, those in residents.items() for name in places):
         return False
     for name, where in places.items():
         if where is not None and (where not in market.resident_lists[name] or name not in small.listed(where) or small.gone("R", name) or small.gone("P", where)):
             return False
-    return all(len(those) <= market.quotas[one] for one, those in residents.items()) and not any(
-        is_blocking(small, name, one) for name in places for one in market.quotas)
+    return all(len(those) <= market.quotas[programme] for programme, those in residents.items()) and not any(
+        is_blocking(small, name, quota) for name in places for quota in market.quotas)
 
 
-def is_blocking(small: Small, name: str, one: str) -> bool:
-    wishes, ranked, where = small.market.resident_lists[name], small.listed(one), small.places[name]
-    if one not in wishes or name not in ranked or where == one or small.gone("R", name) or small.gone("P", one):
+def is_blocking(small: Small, name: str, programme: str) -> bool:
+    wishes, ranked, where = small.market.resident_lists[name], small.listed(programme), small.places[name]
+    if programme not in wishes or name not in ranked or where == programme or small.gone("R", name) or small.gone("P", programme):
         return False
-    if where is not None and wishes.index(where) < wishes.index(one):
+    if where is not None and wishes.index(where) < wishes.index(programme):
         return False
-    return len(small.residents[one]) < small.market.quotas[one] or any(ranked.index(name) < ranked.index(other) for other in small.residents[one])
+    return len(small.residents[programme]) < small.market.quotas[programme] or any(ranked.index(name) < ranked.index(other) for other in small.residents[programme])
 
 
 def each_reason() -> Dict[Tuple[bool, str], List[Reason]]:
@@ -425,7 +425,7 @@ def agreeing(small: Small, reasons: Dict[Tuple[bool, str], List[Reason]], withou
     """For each choice of each resident a reason that the check of one receipt allows, with which each pair agrees; None where one has no such
     reason. A clause can be left out."""
     found = {}
-    programmes = {one: shown_of(small, "P", one) for one in small.market.quotas}
+    programmes = {quota: shown_of(small, "P", quota) for quota in small.market.quotas}
     for name, wishes in small.market.resident_lists.items():
         resident = shown_of(small, "R", name)
         for one, programme in programmes.items():
@@ -444,8 +444,8 @@ def agreeing(small: Small, reasons: Dict[Tuple[bool, str], List[Reason]], withou
 
 def allowed(small: Small, reasons: Dict[Tuple[bool, str], List[Reason]]) -> Dict[Tuple[str, str], Reason]:
     """For each choice of each resident a reason that the check of one receipt allows."""
-    return {(name, one): reasons[small.gone("R", name), stand_of(small, name, choice)][0]
-            for name, wishes in small.market.resident_lists.items() for choice, one in enumerate(wishes)}
+    return {(name, programme): reasons[small.gone("R", name), stand_of(small, name, choice)][0]
+            for name, wishes in small.market.resident_lists.items() for choice, programme in enumerate(wishes)}
 
 
 def fits(resident: Shown, programme: Shown, without: str) -> bool:
@@ -459,11 +459,11 @@ def receipts_of(small: Small, reasons: Dict[Tuple[str, str], Reason]) -> Sealed:
     for side, name in sealed.names:
         if side == "P":
             those = small.residents[name]
-            results.append(text_of([("F", name, len(those), small.market.quotas[name]), *(("M", one, name) for one in those)]))
+            results.append(text_of([("F", name, len(those), small.market.quotas[name]), *(("M", resident, name) for resident in those)]))
             continue
         where, wishes = small.places[name], small.market.resident_lists[name]
         rows: List[Sequence[object]] = [("U", name) if where is None else ("M", name, where)]
-        rows += [(name, one, choice, *reasons[name, one]) for choice, one in enumerate(wishes, 1)]
+        rows += [(name, programme, choice, *reasons[name, programme]) for choice, programme in enumerate(wishes, 1)]
         results.append(text_of(rows))
     sealed.results = results
     return sealed

@@ -106,7 +106,7 @@ def nothing(said: Phrases, key: str) -> List[str]:
 def sentence(pair: Pair, said: Phrases) -> str:
     """What a resident's and a programme's receipts say together."""
     say, kind = sayer(said), pair.what.partition(".")[0]
-    values = {key: said.ordinal(one) if key in RANKS and isinstance(one, int) else one for key, one in pair.values.items()}
+    values = {key: said.ordinal(value) if key in RANKS and isinstance(value, int) else value for key, value in pair.values.items()}
     values["answer"] = say(f"word.{pair.values['answer']}") if "answer" in values else ""
     return say(kind, resident=values["resident"], programme=values["programme"], said=say(pair.what, **values))
 
@@ -115,8 +115,8 @@ def together(given: Sequence[bytes], roots: Published, said: Phrases) -> List[ob
     """As `pair_by_page` of two receipts, in this language."""
     say, faults = sayer(said), [compared_fault(receipt, roots) for receipt in given]
     shown = [None if wrong else shown_by(receipt, roots) for wrong, receipt in zip(faults, given)]
-    parts: List[List[Any]] = [list(fault(wrong, said)) if wrong else good(one, said) if one else [] for wrong, one in zip(faults, shown)]
-    there = {one.side: one for one in shown if one}
+    parts: List[List[Any]] = [list(fault(wrong, said)) if wrong else good(receipt, said) if receipt else [] for wrong, receipt in zip(faults, shown)]
+    there = {receipt.side: receipt for receipt in shown if receipt}
     if any(faults):
         first: List[object] = [next(part[0] for part, wrong in zip(parts, faults) if wrong), f"H3 {say('pair.none')}", f"P {say('pair.fault')}"]
     elif len(there) < 2:
@@ -142,4 +142,4 @@ def in_another(said: Phrases) -> List[str]:
     """The names of the page's phrases of several words that don't have more words of their language than of another one."""
     counts = {key: {language: sum(word in known.split() for word in re.findall(r"[\w’]+", VALUE.sub(" ", text).lower())) for language, known in KNOWN.items()}
               for key, text in said.texts.items() if key.startswith(("check.", "checked.")) and len(re.findall(r"\w+", VALUE.sub(" ", text))) > 1}
-    return [key for key, count in counts.items() if max(count, key=lambda one: (count[one], one != said.language)) != said.language]
+    return [key for key, count in counts.items() if max(count, key=lambda language: (count[language], language != said.language)) != said.language]

@@ -164,8 +164,8 @@ def called_in(source: str, own: str) -> "Dict[Tuple[str, str], str]":
     """By the crate, or the file, and the name of what a source imports, what the source calls it."""
     called: "Dict[Tuple[str, str], str]" = {}
     for crate, file, names in re.findall(r"use (?:Rattle\.)?(\w+)[.:](?:[\w.:]*?[.:])??(\w*)[.:]\{([^}]*)\}", source):
-        for one in names.split(","):
-            name, _, other = one.strip().partition(" as ")
+        for part in names.split(","):
+            name, _, other = part.strip().partition(" as ")
             for place in (own if crate == "crate" else crate, file):
                 called.setdefault((place, name), other or name)
     for crate, name in re.findall(r"use (\w+)::(?:\w+::)*(\w+);", source):
@@ -344,7 +344,7 @@ def bound_wide(text: str) -> "Set[str]":
     others += re.findall(r"(?:[{;]|^ )\s*(\w+) =\s", text, re.M) + re.findall(r"[({]([^(){}:]*) :", text)
     others += re.findall(r"fn (\w+)", text)
     variables = {it for one in left + others for it in re.findall(r"(?<![\w.])[a-z_]\w*", one)}
-    return variables | set(re.findall(r"(\w+)(?=\.[A-Z])", text)) | {it for one in others for it in re.findall(r"\b[A-Z]\b", one)}
+    return variables | set(re.findall(r"(\w+)(?=\.[A-Z])", text)) | {it for other in others for it in re.findall(r"\b[A-Z]\b", other)}
 
 
 def nowhere(page: str) -> "List[str]":

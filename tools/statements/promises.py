@@ -39,7 +39,7 @@ def readme(top: str) -> str:
     """The promises as README has them, each with links to its calls."""
     lines: List[str] = []
     for number, it in enumerate(promises(top), 1):
-        calls = dict.fromkeys(one.call for one in it.carried)
+        calls = dict.fromkeys(carried.call for carried in it.carried)
         lines.append(f"{number}. {it.sentence} See {', '.join(link(call, 'docs/statement.md') for call in calls)}.")
     return "\n".join(lines)
 

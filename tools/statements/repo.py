@@ -23,7 +23,7 @@ class File:
         self.bounds: Dict[str, List[str]] = {}
         if path.endswith(".antt"):
             self.items, self.modules = read_spec(path, self.lines)
-            self.constructors = {one: it.name for it in self.items.values() for one in constructors_of(it)}
+            self.constructors = {constructor: it.name for it in self.items.values() for constructor in constructors_of(it)}
         else:
             self.items, self.parts = read_source(path, self.lines)
 

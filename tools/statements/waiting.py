@@ -113,9 +113,9 @@ def shown(found: List[Item]) -> List[str]:
     for path in dict.fromkeys(it.file for it in found):
         out.append(f"-- crates/{path}")
         here, head = [it for it in found if it.file == path], ""
-        for it in (one for one in here if one.name in TOKENS.get(path, [])):
+        for it in (item for item in here if item.name in TOKENS.get(path, [])):
             out += [*wrapped(it.sentence), *packed(it.text)]
-        for it in (one for one in here if one.name in CALLS.get(path, [])):
+        for it in (item for item in here if item.name in CALLS.get(path, [])):
             out = [*out[:-1], *it.text[1:]] if it.text[0] == head else [*out, *it.text]
             head = it.text[0] if it.text[-1] == "}" else ""
     return [*out, "```"]

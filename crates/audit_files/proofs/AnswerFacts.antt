@@ -1,4 +1,5 @@
--- What the answer says of a sheet, and that a sheet's first difference names a resident.
+-- The answer about a sheet, and that the first difference of a sheet is at a resident of the
+-- docket.
 use Rattle.std.proofs.Common.{◌≡◌, ◌<◌, ℕ, List, Option, Some, None, length, sym, ap, ◌∙◌, inl, inr, arith}
 use Rattle.std.specs.Prelude.{MatchOption}
 use Rattle.std.proofs.lemmas.Bool.{cases_lt}
@@ -28,7 +29,7 @@ unlike_is_resident d sheet (Some q) r whole is unlike same =
     rw (← it) (differs_within sheet unlike.0 (length d.instance.resident_lists) q entries settled unlike.2)
 unlike_is_resident d sheet None r whole is unlike same = absurd (cc same)
 
--- what is found about a sheet of a docket is found about the docket, which has only this sheet
+-- a finding about the sheet of a docket is a finding about the docket, which has only this sheet
 pub tells_first : (d : Contents) (sheet : List (Option ℕ)) (first : Option ℕ) → Some sheet ≡ d.sheet
     → MatchOption first (IsSettled d.instance sheet) (IsUnlikeResult d.instance sheet) → TellsFirst d first
 tells_first d sheet first is unlike other has = let same : sheet ≡ other = cc (is, has) in rw same at unlike

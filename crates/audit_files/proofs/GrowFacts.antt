@@ -19,8 +19,8 @@ pub withdrawn_none : (side : List ℕ) (name : ℕ → List ℕ) (flags : List B
 unfolding withdrawn_rows
 withdrawn_none side name flags a = grows_none a
 
--- the rows of those of the first n + 1 members who are withdrawn are those of the first n, then
--- member n's if it is withdrawn
+-- the rows of the withdrawn members among the first n + 1 are the rows of those among the first n,
+-- followed by member n's row if member n is withdrawn
 pub withdrawn_more : (side : List ℕ) (name : ℕ → List ℕ) (flags : List Bool) (n : ℕ) (a b c : Vec ℕ)
     → Grows a b (withdrawn_rows side name flags n) → Grows b c (withdrawn_row side name flags n) → Grows a c (withdrawn_rows side name flags (n + 1))
 unfolding withdrawn_rows

@@ -20,22 +20,22 @@ use Rattle.audit_files.specs.declared.serve.Verdict.TheVariants.{Good, Bad}
 abbrev pub IsDocketIn : List ℕ → List ℕ → List ℕ → Contents → Type 0
 IsDocketIn docket sheet journal d = IsInFiles Standard docket sheet journal d
 
--- Why three files are no docket: their first fault, told with its file. Or memory ran out, or the machine had no
--- random bytes for the reader.
+-- Why three files are no docket: the first fault of their records, with its file. Or memory ran out, or the
+-- machine had no random bytes.
 pub record IsReadingFault (docket sheet journal : List ℕ) (fault : FilesFault) : Type 0 where
   pub first : FileFault
   pub is_first : IsFaultOfFiles (fault_of_files Standard docket sheet journal) first
   pub is_told : fault ≡ told first
 
--- none only if the docket's sheet is the match's result, else the first resident for whom the two differ; nothing is
--- said without a sheet
+-- If the docket has a sheet: none if the sheet is the match's result, else the first resident for whom the sheet
+-- differs from the result.
 abbrev pub TellsFirst : Contents → Option ℕ → Type 0
 TellsFirst d first =
     (sheet : List (Option ℕ)) → d.sheet ≡ Some sheet →
     MatchOption first (IsSettled d.instance sheet) (IsUnlikeResult d.instance sheet)
 
--- if there is a journal's file, the rows of its replay follow the text; else nothing follows, and there is no status
--- of a replay
+-- If there is a journal's file, the rows of its replay were added, and the status is the replay's. Else nothing was
+-- added, and there is none.
 abbrev pub Replays : Contents → Option (List ℕ) → List ℕ → Option Status → List ℕ → Type 0
 Replays d None before status after = (status ≡ None) × (after ≡ before)
 Replays d (Some bytes) before None after = ⊥
@@ -47,7 +47,7 @@ verdict_on_replay None = Good
 verdict_on_replay (Some ReplayGood) = Good
 verdict_on_replay (Some status) = Bad
 
--- good if the sheet is the result, and the replay was good or not wanted
+-- good if the sheet is the result, and the replay is good or was not wanted
 abbrev pub verdict_on_result : Option ℕ → Option Status → Verdict
 verdict_on_result None replayed = verdict_on_replay replayed
 verdict_on_result (Some r) replayed = Bad
@@ -57,8 +57,8 @@ abbrev pub verdict_of : Status → Option ℕ → Option Status → Verdict
 verdict_of Stable first replayed = verdict_on_result first replayed
 verdict_of audited first replayed = Bad
 
--- What is added to a text about a docket: the rows of the audit, the row that says whether the sheet is the result,
--- and, if there is a journal's file, the rows of the replay.
+-- The rows about a docket that an audit adds to a text: the rows of the audit, the row that says whether the sheet
+-- is the result, and, if there is a journal's file, the rows of the replay.
 pub record Tells (d : Contents) (journal : Option (List ℕ)) (start : List ℕ) (verdict : Verdict) (text : List ℕ) : Type 0 where
   pub audited : Status
   pub after_audit : List ℕ
@@ -75,21 +75,22 @@ pub record AnswersFiles (wants_facts : Bool) (docket sheet : List ℕ) (journal 
   pub read : IsDocketIn docket sheet (unwrap_or journal []) d
   pub tells : Tells d journal (facts_if wants_facts d docket sheet journal) verdict text
 
--- why the answer about a docket is not whole: the docket has no sheet, or it has no journal
+-- why the audit of a docket has no complete answer: the docket has no sheet, or the docket has no
+-- journal
 abbrev pub IsAnswerFault : Contents → FilesFault → Type 0
 IsAnswerFault d files.NoSheet = d.sheet ≡ None
 IsAnswerFault d files.NoJournal = d.journal ≡ None
 IsAnswerFault d files.Memory = ⊤
 IsAnswerFault d fault = ⊥
 
--- the files are a docket, and this is why the answer about it is not whole
+-- the files are a docket, and this is why its audit has no complete answer
 pub record StopsAtDocket (docket sheet journal : List ℕ) (fault : FilesFault) : Type 0 where
   pub d : Contents
   pub read : IsDocketIn docket sheet journal d
   pub fault_is : IsAnswerFault d fault
 
--- Why the answer was not written, or not all of it. Either the files are no docket, or the docket lacks something, or
--- the writer failed.
+-- Why no complete answer was written. Either the files are no docket, or the docket lacks its sheet or its journal,
+-- or the writer failed.
 abbrev pub IsServingFault : List ℕ → List ℕ → Option (List ℕ) → FilesFault → Type 0
 IsServingFault docket sheet journal fault =
     (fault ≡ files.Write) ⊎ (IsReadingFault docket sheet (unwrap_or journal []) fault ⊎ StopsAtDocket docket sheet (unwrap_or journal []) fault)

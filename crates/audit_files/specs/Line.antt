@@ -26,11 +26,12 @@ pub record GivesOrder (rows : List Row) (order : Order) : Type 0 where
   pub facts : IsFlagged (codes "facts") rows → order.facts ≡ true
   pub no_facts : IsUnflagged (codes "facts") rows → order.facts ≡ false
 
--- the path of a file is `-`, which stands for standard input
+-- a file is named, and its path is `-`, which stands for standard input
 abbrev pub IsInput : Option Text → Type 0
 IsInput path = path ≡ Some (codes "-")
 
--- two of the files would come from standard input; `NamesTwice` says it of the files that the values name
+-- two or three of the files would come from standard input; `NamesTwice` says this of the values on
+-- the command line
 abbrev pub IsTwice : Option Text → Option Text → Option Text → Type 0
 IsTwice docket sheet journal = (IsInput docket × IsInput sheet) ⊎ ((IsInput docket × IsInput journal) ⊎ (IsInput sheet × IsInput journal))
 

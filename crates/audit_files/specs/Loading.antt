@@ -1,4 +1,4 @@
--- What the bytes are of the files that an order names.
+-- The bytes of the files that an order names.
 use Rattle.std.specs.Prelude.{◌≡◌, ◌⊎◌, ℕ, Option, Some, List, option_map}
 use Rattle.program_shell.specs.Loading.{AreBytesIf, AreBytesOf}
 use Rattle.audit_files.specs.Line.{IsInput}

@@ -1,4 +1,4 @@
--- How a fault of the docket's reader is told.
+-- A fault of the docket's reader as a fault of the audit over files.
 use Rattle.docket.specs.declared.part.Part.{Part}
 use Rattle.docket.specs.declared.file_fault.FileFault.{FileFault}
 use Rattle.docket.specs.declared.records_fault.RecordsFault.{RecordsFault}
@@ -7,7 +7,7 @@ use Rattle.docket.specs.declared.fault.DocketFault.TheVariants as docket
 use Rattle.audit_files.specs.declared.fault.FilesFault.{FilesFault}
 use Rattle.audit_files.specs.declared.fault.FilesFault.TheVariants as files
 
--- a fault in this file; running out of memory belongs to no file
+-- a fault of this file's records; out of memory is no file's fault
 abbrev pub told_in : Part → RecordsFault → FilesFault
 told_in file (records.Docket docket.Memory) = files.Memory
 told_in file fault = files.Docket file fault

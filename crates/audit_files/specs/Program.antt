@@ -12,7 +12,8 @@ use Rattle.audit_files.specs.declared.fault.FilesFault.TheVariants.{Write}
 use Rattle.audit_files.specs.declared.order.Order.{Order}
 use Rattle.audit_files.specs.declared.serve.Verdict.{Verdict}
 
--- The files that the order names have these bytes. Either the whole answer was appended, or this fault says why not.
+-- The files that the order names have these bytes. Either the answer was appended to the output, or this fault
+-- says why not.
 pub record AnswersOrder (order : Order) (input old new : Option (List ℕ)) (answer : Result Verdict FilesFault) : Type 0 where
   pub docket : List ℕ
   pub sheet : List ℕ

@@ -53,7 +53,7 @@ facts_text d docket sheet journal =
     digest_row (codes "docket") docket
     ++ (digest_row (codes "sheet") sheet ++ (journal_digest_row journal ++ (members_row d ++ all_withdrawn_rows d)))
 
--- the facts, if they are wanted
+-- the facts if they are wanted, else an empty text
 abbrev pub facts_if : Bool → Contents → List ℕ → List ℕ → Option (List ℕ) → List ℕ
 facts_if true d docket sheet journal = facts_text d docket sheet journal
 facts_if false d docket sheet journal = []

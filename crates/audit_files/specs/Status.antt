@@ -14,7 +14,7 @@ fault_status_of NoJournal = 3
 fault_status_of Memory = 1
 fault_status_of Write = 1
 
--- 0 if all of the answer is good, 4 if something in it isn't, and after a fault the fault's status
+-- 0 if the verdict is good, 4 if it is bad; without a verdict, the status of the fault
 abbrev pub exit_status_of : Result Verdict FilesFault → ℕ
 exit_status_of (Ok Good) = 0
 exit_status_of (Ok Bad) = 4

@@ -44,9 +44,9 @@ fn put_journal_digest(
 fn put_members(text: &mut Vec<u8>, docket: &Docket) -> Result<(), AllocError>
     ensures { OnOk result (Grows text.old text.new (spec.members_row docket.now)) }
 {
-    let (mut first, mut second) = (itoa::Buffer::new(), itoa::Buffer::new());
-    let programmes = first.format(docket.instance().programmes());
-    let residents = second.format(docket.instance().residents());
+    let (mut programmes_room, mut residents_room) = (itoa::Buffer::new(), itoa::Buffer::new());
+    let programmes = programmes_room.format(docket.instance().programmes());
+    let residents = residents_room.format(docket.instance().residents());
     put_long_row(text, b"T", programmes.as_bytes(), residents.as_bytes())
 }
 
@@ -60,9 +60,14 @@ fn put_programme(
     ensures { OnOk result (Grows text.old text.new (spec.withdrawn_row (codes "P")
         (programme_name docket.now) docket.now.instance.programmes_withdrawn programme)) }
 {
-    let again = programme;
+    let same_programme = programme;
     if docket.instance().programme_withdrawn(programme) {
-        put_long_row(text, b"W", b"P", docket.programme_name(again).as_bytes())
+        put_long_row(
+            text,
+            b"W",
+            b"P",
+            docket.programme_name(same_programme).as_bytes(),
+        )
     } else {
         Ok(())
     }
@@ -74,9 +79,14 @@ fn put_resident(text: &mut Vec<u8>, docket: &Docket, resident: ResidentNo) -> Re
     ensures { OnOk result (Grows text.old text.new (spec.withdrawn_row (codes "R")
         (resident_name docket.now) docket.now.instance.residents_withdrawn resident)) }
 {
-    let again = resident;
+    let same_resident = resident;
     if docket.instance().resident_withdrawn(resident) {
-        put_long_row(text, b"W", b"R", docket.resident_name(again).as_bytes())
+        put_long_row(
+            text,
+            b"W",
+            b"R",
+            docket.resident_name(same_resident).as_bytes(),
+        )
     } else {
         Ok(())
     }

@@ -26,15 +26,15 @@ pub enum FilesFault {
     Write,
 }
 
-/// A fault of the docket's reader, as a fault of the audit over files. Running out of memory belongs
-/// to no file.
-pub fn told(there: FileFault) -> FilesFault
-    ensures { result ≡ spec.told there }
+/// A fault of the docket's reader, as a fault of the audit over files. Out of memory is no fault of
+/// a file.
+pub fn told(file_fault: FileFault) -> FilesFault
+    ensures { result ≡ spec.told file_fault }
 {
-    match there.fault {
+    match file_fault.fault {
         RecordsFault::Docket(DocketFault::Memory) => FilesFault::Memory,
         fault => FilesFault::Docket {
-            file: there.file,
+            file: file_fault.file,
             fault,
         },
     }

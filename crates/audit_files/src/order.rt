@@ -31,7 +31,7 @@ impl<'a> Order<'a> {
     }
 }
 
-// Whether a file is named, and is standard input.
+// Whether a path is given and stands for standard input.
 fn is_input_if(path: Option<&str>) -> bool
     ensures named { OnTrue result (IsInput (option_map (λ path. path.now) path.entry)) }
     ensures other { OnFalse result (IsInput (option_map (λ path. path.now) path.entry) → ⊥) }

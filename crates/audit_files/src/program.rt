@@ -23,10 +23,10 @@ use std::random::RandomSource;
 use std::rt::Files;
 
 // Prints why the answer is missing or incomplete. The exit status never depends on whether this text could be written.
-fn tell<T: Eprint>(told: &T, order: &Order, fault: &FilesFault) {
+fn tell<T: Eprint>(console: &T, order: &Order, fault: &FilesFault) {
     let _ = match fault.file() {
-        Some(part) => eprintln!(told; "residency: {}: {fault}", order.path_of(part)),
-        None => eprintln!(told; "residency: {fault}"),
+        Some(part) => eprintln!(console; "residency: {}: {fault}", order.path_of(part)),
+        None => eprintln!(console; "residency: {fault}"),
     };
 }
 
@@ -37,7 +37,7 @@ fn serve_loaded<W: Write, T: Eprint, H: RandomSource>(
     order: &Order,
     loaded: &Loaded,
     writer: &mut W,
-    told: &T,
+    console: &T,
 ) -> ExitCode
     ensures { (input : Option (List ℕ)) → AreFiles order.now input loaded.now.docket.items
         loaded.now.sheet.items (option_map (λ bytes. bytes.items) loaded.now.journal)
@@ -54,7 +54,7 @@ fn serve_loaded<W: Write, T: Eprint, H: RandomSource>(
         writer,
     );
     if let Err(fault) = &answer {
-        tell(told, order, fault);
+        tell(console, order, fault);
     }
     ExitCode::from(exit_status(&answer))
 }
@@ -66,7 +66,7 @@ fn serve_order<R, W, T, H>(
     order: &Order,
     reader: &mut R,
     writer: &mut W,
-    told: &T,
+    console: &T,
 ) -> ExitCode
 where
     R: Read,
@@ -79,8 +79,8 @@ where
         (W.contents writer.new) (exit_status_in result) order.now }
 {
     match load(rt, alloc, order, reader) {
-        Ok(loaded) => serve_loaded(rt, alloc, order, &loaded, writer, told),
-        Err(unread) => refuse_unread(told, &unread),
+        Ok(loaded) => serve_loaded(rt, alloc, order, &loaded, writer, console),
+        Err(unread) => refuse_unread(console, &unread),
     }
 }
 
@@ -96,7 +96,7 @@ pub fn audit_words<R, W, T, H>(
     words: io::Result<Vec<String>>,
     reader: &mut R,
     writer: &mut W,
-    told: &T,
+    console: &T,
 ) -> ExitCode
 where
     R: Read,
@@ -108,10 +108,10 @@ where
 {
     let texts = match texts_of(words) {
         Ok(texts) => texts,
-        Err(fault) => return refuse(told, &fault),
+        Err(fault) => return refuse(console, &fault),
     };
     match read_line(alloc, texts.as_slice()) {
-        Ok(order) => serve_order(rt, alloc, &order, reader, writer, told),
-        Err(fault) => refuse(told, &UsageFault::Line(fault)),
+        Ok(order) => serve_order(rt, alloc, &order, reader, writer, console),
+        Err(fault) => refuse(console, &UsageFault::Line(fault)),
     }
 }

@@ -21,6 +21,6 @@ pub(crate) fn read_files<H: RandomSource>(
 {
     match read_parts(rt, alloc, Limits::Standard, docket, sheet, journal) {
         Ok(docket) => Ok(docket),
-        Err(there) => Err(told(there)),
+        Err(file_fault) => Err(told(file_fault)),
     }
 }

@@ -30,31 +30,31 @@ pub(crate) fn put_row(text: &mut Vec<u8>, letter: &[u8], field: &[u8]) -> Result
 pub(crate) fn put_long_row(
     text: &mut Vec<u8>,
     letter: &[u8],
-    first: &[u8],
-    second: &[u8],
+    first_field: &[u8],
+    second_field: &[u8],
 ) -> Result<(), AllocError>
     ensures { OnOk result
-        (Grows text.old text.new (spec.long_row letter.now first.now second.now)) }
+        (Grows text.old text.new (spec.long_row letter.now first_field.now second_field.now)) }
 {
     put(text, letter)?;
     put(text, b",")?;
-    put(text, first)?;
+    put(text, first_field)?;
     put(text, b",")?;
-    put(text, second)?;
+    put(text, second_field)?;
     put(text, b"\n")
 }
 
-/// Adds the row about the match's result. The row says that the sheet is the result, or names the first resident for
-/// whom the sheet differs.
+/// Adds the row about the match's result: that the sheet is the result, or the first resident for whom the sheet
+/// differs from it.
 pub(crate) fn put_result(
     text: &mut Vec<u8>,
     docket: &Docket,
-    first: Option<ResidentNo>,
+    first_unlike: Option<ResidentNo>,
 ) -> Result<(), AllocError>
-    requires { (r : ℕ) → first ≡ Some r → IsResident docket.now.instance r }
-    ensures { OnOk result (Grows text.old text.new (spec.result_row docket.now first)) }
+    requires { (r : ℕ) → first_unlike ≡ Some r → IsResident docket.now.instance r }
+    ensures { OnOk result (Grows text.old text.new (spec.result_row docket.now first_unlike)) }
 {
-    match first {
+    match first_unlike {
         None => put_row(text, b"Y", b"result"),
         Some(resident) => put_row(text, b"D", docket.resident_name(resident).as_bytes()),
     }

@@ -48,18 +48,19 @@ fn add_result(
     text: &mut Vec<u8>,
 ) -> Result<Option<ResidentNo>, FilesFault>
     ensures first { IfOk result (TellsFirst docket.now) }
-    ensures text { IfOk result (λ first. Grows text.old text.new (result_row docket.now first)) }
+    ensures text { IfOk result (λ first_unlike. Grows text.old text.new
+        (result_row docket.now first_unlike)) }
     ensures fault { IfErr result (IsAnswerFault docket.now) }
 {
     let Some(sheet) = docket.sheet() else {
         return Err(FilesFault::NoSheet);
     };
-    let Ok(first) = first_unlike_result(alloc, docket.instance(), sheet) else {
+    let Ok(first_unlike) = first_unlike_result(alloc, docket.instance(), sheet) else {
         return Err(FilesFault::Memory);
     };
-    let again = first;
-    match put_result(text, docket, first) {
-        Ok(()) => Ok(again),
+    let same_unlike = first_unlike;
+    match put_result(text, docket, first_unlike) {
+        Ok(()) => Ok(same_unlike),
         Err(_) => Err(FilesFault::Memory),
     }
 }
@@ -98,10 +99,14 @@ fn add_replay_if(
 }
 
 // The verdict from the audit, from the comparison with the result, and from the replay.
-fn verdict_on(audited: Status, first: Option<ResidentNo>, replayed: Option<Status>) -> Verdict
-    ensures { result ≡ verdict_of audited first replayed }
+fn verdict_on(
+    audited: Status,
+    first_unlike: Option<ResidentNo>,
+    replayed: Option<Status>,
+) -> Verdict
+    ensures { result ≡ verdict_of audited first_unlike replayed }
 {
-    match (audited, first, replayed) {
+    match (audited, first_unlike, replayed) {
         (Status::Stable, None, None | Some(Status::ReplayGood)) => Verdict::Good,
         _ => Verdict::Bad,
     }
@@ -122,15 +127,15 @@ fn add_answer(
         Ok(audited) => audited,
         Err(fault) => return Err(fault),
     };
-    let first = match add_result(alloc, docket, text) {
-        Ok(first) => first,
+    let first_unlike = match add_result(alloc, docket, text) {
+        Ok(first_unlike) => first_unlike,
         Err(fault) => return Err(fault),
     };
     let replayed = match add_replay_if(alloc, docket, journal, text) {
         Ok(replayed) => replayed,
         Err(fault) => return Err(fault),
     };
-    Ok(verdict_on(audited, first, replayed))
+    Ok(verdict_on(audited, first_unlike, replayed))
 }
 
 // The text of the facts if the facts are asked for, else an empty text.

@@ -5,7 +5,8 @@ use Rattle.records.specs.declared.writer.RowWriter.{RowWriter}
 use Rattle.records.proofs.RowTextFacts.{adds_none, adds_both}
 use Rattle.audit_text.specs.Answer.{worker_row, worker_rows}
 
--- the rows of the first k + 1 workers are the rows of the first k workers and the row of one more
+-- the rows of the first k + 1 workers are the rows of the first k workers, followed by worker k's
+-- row
 worker_rows-more : (first : ℕ) (counts : List ℕ) (k : ℕ) → k < length counts
     → worker_rows first (take (k + 1) counts) ≡ worker_rows first (take k counts) ++ worker_row (first + k) (get_or counts k 0)
 unfolding worker_rows

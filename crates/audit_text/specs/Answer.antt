@@ -80,7 +80,8 @@ unfoldable pub worker_rows : ℕ → List ℕ → List ℕ
 worker_rows first [] = []
 worker_rows first (events ∷ counts) = worker_row first events ++ worker_rows (first + 1) counts
 
--- the rows after those of an answer: one for each worker if the answer is good and there are counts, else none
+-- the rows that follow the row of an answer: one for each worker if the answer is good and there are counts,
+-- else none
 unfoldable pub count_rows : Result Replayed ReplayFault → Option (List ℕ) → List ℕ
 count_rows (Ok replayed) (Some counts) = worker_rows 0 counts
 count_rows answer counts = []
@@ -89,7 +90,7 @@ count_rows answer counts = []
 unfoldable pub replay_text : Contents → Result Replayed ReplayFault → Option (List ℕ) → List ℕ
 replay_text d answer counts = row (answer_fields d answer) ++ count_rows answer counts
 
--- the answer names only members of the docket
+-- the members that the answer names are members of the docket
 abbrev pub IsAnswerOf : Contents → Result Replayed ReplayFault → Type 0
 IsAnswerOf d (Ok replayed) = Unit {0}
 IsAnswerOf d (Err fault) = NamesMember d.instance fault

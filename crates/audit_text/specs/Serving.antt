@@ -20,12 +20,12 @@ use Rattle.audit_text.specs.declared.status.Status.TheVariants.{Stable, Unstable
 use Rattle.audit_text.specs.Report.{report_text}
 use Rattle.audit_text.specs.Answer.{replay_text}
 
--- the status is that of a stable or an unstable sheet, and is the first exactly if the sheet is stable
+-- the status is `Stable` if the sheet is stable, else `Unstable`
 pub record TellsStable (inst : Instance) (sheet : List (Option ℕ)) (status : Status) : Type 0 where
   pub either : (status ≡ Stable) ⊎ (status ≡ Unstable)
   pub stable : (status ≡ Stable) ↔ IsStable inst sheet
 
--- the docket has a sheet, and this is a report about it
+-- the docket has a sheet, and the report is about this sheet
 pub record SheetReport (d : Contents) : Type 0 where
   pub sheet : List (Option ℕ)
   pub has_sheet : d.sheet ≡ Some sheet
@@ -39,8 +39,8 @@ pub record WritesReport (d : Contents) (status : Status) (old new : Option (List
   pub tells : TellsStable d.instance audit.sheet status
   pub appended : Appends old new (report_text d audit.report)
 
--- The answer is what a replay has to give for the journal: the placement, or a fault. If there is a sheet, it is
--- checked, too. The answer is not out of memory.
+-- The answer that a replay has to give for the journal: the placement, or a fault other than out of memory. If
+-- there is a sheet, the placement is also compared with the sheet.
 abbrev pub IsReplayAnswer : Instance → JournalParts → Option (List (Option ℕ)) → Result Replayed ReplayFault → Type 0
 IsReplayAnswer inst j None (Ok replayed) = IsGood inst j.capacity j.events × IsReplayOf inst j.events replayed
 IsReplayAnswer inst j None (Err fault) = IsListFault inst j.capacity j.events fault
@@ -57,7 +57,7 @@ abbrev pub replay_status : Result Replayed ReplayFault → Status
 replay_status (Ok replayed) = ReplayGood
 replay_status (Err fault) = ReplayBad
 
--- the docket has a journal, and this is a right answer about it
+-- the docket has a journal, and this is the answer that a replay has to give for it
 pub record JournalAnswer (d : Contents) : Type 0 where
   pub journal : JournalParts
   pub has_journal : d.journal ≡ Some journal
@@ -75,23 +75,23 @@ pub record WritesReplay (d : Contents) (status : Status) (old new : Option (List
 abbrev pub IsWriteFault : DocketFault → Type 0
 IsWriteFault fault = (fault ≡ docket.Memory) ⊎ (fault ≡ docket.Write)
 
--- Why an audit wrote no whole report. Memory or the writer failed after the report was made, or the docket has no
--- sheet, or memory ran out before the report was made.
+-- Why an audit wrote no complete report. Memory or the writer failed after the report was made, or the docket has
+-- no sheet, or memory ran out before the report was made.
 abbrev pub IsAuditFault : Contents → AnswerFault → Type 0
 IsAuditFault d (Docket fault) = SheetReport d × IsWriteFault fault
 IsAuditFault d NoSheet = d.sheet ≡ None
 IsAuditFault d Memory = IsSome d.sheet
 IsAuditFault d fault = ⊥
 
--- Why a replay wrote no whole answer. Memory or the writer failed after the answer was found, or the docket has no
--- journal, or memory ran out before the answer was found.
+-- Why a replay wrote no complete answer. Memory or the writer failed after the answer was found, or the docket has
+-- no journal, or memory ran out before the answer was found.
 abbrev pub IsReplayFault : Contents → AnswerFault → Type 0
 IsReplayFault d (Docket fault) = JournalAnswer d × IsWriteFault fault
 IsReplayFault d NoJournal = d.journal ≡ None
 IsReplayFault d Memory = IsSome d.journal
 IsReplayFault d fault = ⊥
 
--- a fault before which nothing was written: any fault but the writer's
+-- any fault except a failure of the writer; before such a fault nothing was written
 abbrev pub IsBeforeWriting : AnswerFault → Type 0
 IsBeforeWriting (Docket fault) = fault ≢ docket.Write
 IsBeforeWriting fault = Unit {0}

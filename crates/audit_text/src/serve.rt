@@ -42,7 +42,7 @@ pub fn audit_docket<W: Write>(
     let Some(sheet) = docket.sheet() else {
         return Err(AnswerFault::NoSheet);
     };
-    // Only the proof needs this call: by its clause the rankings of an instance are mutual and within the limits.
+    // For the proof alone: the rankings of an instance are mutual and within the limits.
     let _instance = docket.instance().residents();
     let report = report_of(alloc, docket, sheet)?;
     match write_report(alloc, docket, &report, writer) {
@@ -68,7 +68,7 @@ fn counts_of(alloc: Global, journal: &Journal) -> Result<Option<Vec<u64>>, Answe
     }
 }
 
-// The counts as a slice, if there are counts.
+// The workers' counts as a slice, if there are any.
 fn lent(counts: &Option<Vec<u64>>) -> Option<&[u64]>
     ensures { option_copied result ≡ option_map (λ (v : Vec ℕ). v.items) counts.now }
 {

@@ -1,5 +1,4 @@
--- What certain words ask the program to do by the definitions, computed for words with options and for words without
--- options.
+-- Examples of the definitions: the command and the options that some words give.
 use Rattle.std.proofs.Common.{◌≡◌, refl, codes, List, [], ◌∷◌, Option, Some, option_map}
 use Rattle.clap.specs.Words.{Text, first_of, one_of, subcommand_of}
 use Rattle.clap.proofs.OnLiterals.{clap_on_literals}

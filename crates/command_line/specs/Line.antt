@@ -39,28 +39,28 @@ command_of (Match o) = codes "match"
 command_of Audit = codes "audit"
 command_of Replay = codes "replay"
 
--- if the values have a number from 1 to 8 for `workers`, it is this number of workers
+-- if the values on the command line have a number from 1 to 8 for `workers`, it is this number
 abbrev pub GivesWorkers : List Row → ℕ → Type 0
 GivesWorkers rows workers = (n : ℕ) → 1 ≤ n → n ≤ 8 → one_of (codes "workers") rows ≡ Some (decimal n) → workers ≡ n
 
--- if the values have a text for `capacity`, it is the text of this capacity
+-- if the values on the command line have a text for `capacity`, this capacity has this text
 abbrev pub GivesRoom : List Row → Capacity → Type 0
 GivesRoom rows room = (text : Text) → first_of (codes "capacity") rows ≡ Some text → capacity_of text ≡ Some room
 
--- The values ask for this form of the journal. If both forms are asked for, the form by worker is given; if no form is
--- asked for, there is no journal.
+-- The values on the command line ask for this form of the journal. If they ask for both forms, it is the form by
+-- worker. If they ask for no form, there is no journal.
 pub record GivesJournal (rows : List Row) (form : JournalForm) : Type 0 where
   pub by_worker : IsFlagged (codes "journal-by-worker") rows → form ≡ ByWorker
   pub plain : IsUnflagged (codes "journal-by-worker") rows → IsFlagged (codes "journal") rows → form ≡ Plain
   pub absent : IsUnflagged (codes "journal-by-worker") rows → IsUnflagged (codes "journal") rows → form ≡ Absent
 
--- the values give these options for a match
+-- the values on the command line give these options for a match
 pub record GivesOptions (rows : List Row) (o : MatchOptions) : Type 0 where
   pub workers : GivesWorkers rows o.workers
   pub capacity : GivesRoom rows o.capacity
   pub journal : GivesJournal rows o.journal
 
--- the values fit this order: for a match they give its options
+-- the values on the command line fit this order; for a match they give its options
 abbrev pub GivesOrder : List Row → Order → Type 0
 GivesOrder rows (Match o) = GivesOptions rows o
 GivesOrder rows Audit = Unit {0}

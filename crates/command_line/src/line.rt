@@ -147,7 +147,7 @@ fn commands<'a>(alloc: Global) -> Result<Command<'a>, AllocError>
     with_command(auditing, replay_command(alloc))
 }
 
-// The number of workers, from 1 to 8, that the words give; 2 if they give none.
+// The number of workers that the words give, from 1 to 8; 2 if they give none.
 fn workers_of(matches: &ArgMatches) -> usize
     ensures some { 1 ≤ result }
     ensures few { result ≤ 8 }
@@ -159,8 +159,8 @@ fn workers_of(matches: &ArgMatches) -> usize
     }
 }
 
-// The capacity of the mailboxes that the words give; full if they give none. A text that stands for no
-// capacity is a fault.
+// The capacity of the mailboxes that the words give; `full` if they give none. A text that stands for
+// no capacity is a fault.
 fn room_of(matches: &ArgMatches) -> Result<Capacity, LineFault>
     ensures admitted { IfOk result (λ room. is_capacity room ≡ true) }
     ensures given { IfOk result (GivesRoom (rows_of (found_of matches.now))) }
@@ -249,8 +249,8 @@ fn nothing_named(commands: &mut Command) -> LineFault
     }
 }
 
-/// What the words ask the program to do. The words are those after the program's own name.
-// This function isn't inlined: its frame would stand on the stack of all that the program does afterwards.
+/// What the words ask the program to do. The words are those after the program's own name. This function
+/// isn't inlined, since its frame would stay on the stack while the rest of the program runs.
 #[inline(never)]
 pub fn read_line<'a, S: AsStr>(alloc: Global, words: &'a [S]) -> Result<Order, LineFault>
     ensures order { IfOk result (Orders (map S.text words.entry.now)) }

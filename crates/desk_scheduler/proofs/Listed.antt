@@ -32,8 +32,8 @@ has_room places listed behind r s d are within none =
     let most = sum_by-le times 1 (set places d Listed) (λ k e l. times_le (get_or (set places d Listed) k e)) in
     omega (arith, more, most, length-set places d Listed, are.as_many, are.room, none)
 
--- after one desk's state changed, only the number of times that this desk should be listed is
--- another
+-- after one desk's state changed, only this desk should be listed another number of times than
+-- before
 moved_once : (places : List Place) (d : ℕ) (place : Place) (k : ℕ) → d < length places
     → times (get_or (set places d place) k Idle) ≡ cond (d == k) (times place) (times (get_or places k Idle))
 moved_once places d place k within = by (d == k) refl
@@ -42,8 +42,8 @@ moved_once places d place k within = by (d == k) refl
     by true e = ap times (get_or-set_at places d k place Idle (sym (eqb-true d k e)) within)
     by false e = ap times (get_or-set_other places d k place Idle (λ f. eqb-false d k e (sym f)))
 
--- if a desk that isn't listed is added to the first tier, with the state for this, what is true of
--- the tiers stays true
+-- if a desk that isn't listed is added to the first tier and gets the state `Listed`, what is true
+-- of the tiers stays true
 pub listed_more : (places : List Place) (listed behind : List ℕ) (r s d : ℕ) → AreListed places listed behind r s → d < length places
     → times (get_or places d Idle) ≡ 0 → AreListed (set places d Listed) (listed ++ d ∷ []) behind r s
 listed_more places listed behind r s d are within none = record {
@@ -65,8 +65,8 @@ listed_more places listed behind r s d are within none = record {
         let new : times (get_or (set places d Listed) k Idle) ≡ times (get_or places k Idle) = moved_once places d Listed k within ∙ ap (λ (b : Bool). cond b 1 (times (get_or places k Idle))) e in
         omega (arith, are.once k, one, new)
 
--- if a desk that isn't listed is added to the second tier, with the state for this, what is true of
--- the tiers stays true
+-- if a desk that isn't listed is added to the second tier and gets the state `Listed`, what is true
+-- of the tiers stays true
 pub listed_behind : (places : List Place) (listed behind : List ℕ) (r s d : ℕ) → AreListed places listed behind r s → d < length places
     → times (get_or places d Idle) ≡ 0 → AreListed (set places d Listed) listed (behind ++ d ∷ []) r s
 listed_behind places listed behind r s d are within none =

@@ -73,7 +73,7 @@ pub not_empty : (zs : List ℕ) (k : ℕ) (ys : List ℕ) → [] ≢ zs ++ k ∷
 not_empty [] k ys e = cc
 not_empty (z ∷ zs) k ys e = cc
 
--- if two joined lists are cut at an item, this item stands in the first or in the second of them
+-- an item at which two joined lists are cut stands in the first list or in the second list
 pub data Cut (xs ys ahead : List ℕ) (k : ℕ) (bs : List ℕ) : Type 0 where
   in_front : (zs : List ℕ) → xs ≡ ahead ++ k ∷ zs → bs ≡ zs ++ ys → Cut xs ys ahead k bs
   in_rest : (zs : List ℕ) → ahead ≡ xs ++ zs → ys ≡ zs ++ k ∷ bs → Cut xs ys ahead k bs

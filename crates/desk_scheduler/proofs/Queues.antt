@@ -53,7 +53,7 @@ nobody_yet w n first last mailbox before behind = (
 -- The queues after desk d joins the queue of mailbox m
 
 module _ (w : Waits) (count m d : ℕ) (are : AreQueues w count) (within : d < length w.mailbox) (waits_not : linked_at w.mailbox d ≡ None) where
-  -- a desk that waits is not desk d, which does not wait yet
+  -- a desk that waits is another than desk d, since d does not wait yet
   waits_apart : (k n : ℕ) → linked_at w.mailbox k ≡ Some n → k ≢ d
   waits_apart k n waits same =
       let bad : linked_at w.mailbox d ≡ Some n = subst (λ (j : ℕ). linked_at w.mailbox j ≡ Some n) same waits in
@@ -285,7 +285,7 @@ module _ (w : Waits) (count m d : ℕ) (are : AreQueues w count) (waits : linked
     | inr past ↦ absurd (none_some e (sym (are.unlinked d m waits past).behind ∙ at))
   ]
 
-  -- two desks that wait for different mailboxes are different desks
+  -- two desks that wait for room in different mailboxes are different desks
   waits_else : (k n : ℕ) → n ≢ m → linked_at w.mailbox k ≡ Some n → (e : ℕ) → linked_at w.mailbox e ≡ Some m → k ≢ e
   waits_else k n apart there e here same =
       let both : linked_at w.mailbox k ≡ Some m = subst (λ (j : ℕ). linked_at w.mailbox j ≡ Some m) (sym same) here in

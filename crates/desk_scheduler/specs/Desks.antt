@@ -21,15 +21,16 @@ place_of desks d = slice_index_or desks.places d Idle
 abbrev pub moved : Desks → ℕ → Place → Desks
 moved desks d place = record { places = slice_set desks.places d place; ready = desks.ready; behind = desks.behind }
 
--- the desks, with this desk listed, as the first of the first list
+-- the desks after this desk was listed, as the first of the first list
 abbrev pub on_top : Desks → ℕ → Desks
 on_top desks d = record { places = slice_set desks.places d Listed; ready = d ∷ desks.ready; behind = desks.behind }
 
--- the desks, with this desk listed, as the first of the second list
+-- the desks after this desk was listed, as the first of the second list
 abbrev pub on_top_behind : Desks → ℕ → Desks
 on_top_behind desks d = record { places = slice_set desks.places d Listed; ready = desks.ready; behind = d ∷ desks.behind }
 
--- the desks, with this desk listed: in the second list if it was woken by a hold, else in the first
+-- the desks after this desk was listed: in the second list if an answer `hold` woke it, else in the
+-- first list
 abbrev pub listed_for : Desks → ℕ → Wake → Desks
 listed_for desks d Work = on_top desks d
 listed_for desks d Hold = on_top_behind desks d
@@ -59,12 +60,12 @@ let_go_from desks d again Listed = desks
 abbrev pub letting_go : Desks → ℕ → Bool → Desks
 letting_go desks d again = let_go_from desks d again (place_of desks d)
 
--- whether either list has a desk
+-- whether any desk is listed
 abbrev pub is_listed : Desks → Bool
 is_listed desks = nat_lt 0 (length desks.ready) || nat_lt 0 (length desks.behind)
 
--- the next desk, now held, and the desks without it in a list; the second list is used only if the first is empty;
--- `taken` takes the desks' own lists
+-- The next desk, and the desks after a worker took it. It comes from the second list only if the first is empty.
+-- `taken` uses the desks' own lists.
 abbrev pub taken_from : Desks → List ℕ → List ℕ → Option (ℕ × Desks)
 taken_from desks (d ∷ ready) behind = Some (d, record { places = slice_set desks.places d InHand; ready = ready; behind = behind })
 taken_from desks [] (d ∷ behind) = Some (d, record { places = slice_set desks.places d InHand; ready = []; behind = behind })

@@ -9,8 +9,8 @@ pub record Schedule : Type 0 where
   pub waiting : ℕ
   pub ended : Bool
 
--- desks are numbered: residents' desks from 0, programmes' desks from `first_programme`, and all numbers have
--- 32 bits
+-- residents' desks are numbered from 0 and programmes' desks from `first_programme`, and all numbers have 32
+-- bits
 pub record IsNumbered (residents programmes : Desks) (first_programme : ℕ) : Type 0 where
   pub first : first_programme ≡ length residents.places
   pub fits : length residents.places + length programmes.places < 2 ^ 32

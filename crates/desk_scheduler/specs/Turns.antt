@@ -72,7 +72,7 @@ waiting_now s n = record { residents = s.residents; programmes = s.programmes; w
 abbrev pub ended_now : Schedule → Schedule
 ended_now s = record { residents = s.residents; programmes = s.programmes; waiting = s.waiting; ended = true }
 
--- the state is that of a held desk
+-- a desk with this state is held by a worker
 abbrev pub IsInHandAt : Place → Type 0
 IsInHandAt Idle = ⊥
 IsInHandAt Listed = ⊥

@@ -62,7 +62,7 @@ abbrev pub linked_to : List (Option ℕ) → Option ℕ → Option ℕ → List 
 linked_to row None to = row
 linked_to row (Some desk) to = slice_set row desk to
 
--- the first or last desks of the queues after this mailbox's is set; unchanged if there is a desk
+-- the first or last desks of all queues, with `to` for mailbox m; unchanged if there is a neighbour desk
 abbrev pub ended_at : List (Option ℕ) → Option ℕ → ℕ → Option ℕ → List (Option ℕ)
 ended_at row None m to = slice_set row m to
 ended_at row (Some desk) m to = row

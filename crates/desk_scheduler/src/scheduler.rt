@@ -135,8 +135,8 @@ impl Scheduler {
         }
     }
 
-    /// Gives a worker this desk if no worker has it and it is not listed, else the first listed desk. The answer is
-    /// `Nothing` only if another worker has this desk and no desk is listed.
+    /// Gives a worker this desk if it is idle, else the first listed desk. The answer is `Nothing` only if another
+    /// worker has this desk and no desk is listed.
     pub fn claim_or_next(&mut self, desk: u32) -> Next
         ensures next { (result, self.new) ≡ claim_or_next_of self.old desk }
         ensures in_hand { result ≡ Next.Nothing → IsInHand self.old desk }

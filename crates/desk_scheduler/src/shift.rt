@@ -110,19 +110,19 @@ impl<J: WorkersIdentity> Shift<J> {
 
     /// Gives a worker that looks for a desk the first listed one, until the run ends.
     #[inline(always)]
-    pub fn next(&mut self, own: Looking<J>) -> TurnOf<J>
+    pub fn next(&mut self, token: Looking<J>) -> TurnOf<J>
         ensures next { (next_in (λ hand. hand.desk) result, self.new.schedule)
             ≡ next_of self.old.schedule }
         ensures goes_on { self.new.schedule.ended ≡ self.old.schedule.ended }
         ensures counted { GetDesks self.old self.new (desks_in result) }
     {
         let next = self.scheduler.next();
-        self.gets(next, own)
+        self.gets(next, token)
     }
 
     /// Gives a worker that looks for a desk this one if it is idle, else the first listed one. The worker gets no
     /// desk only if another worker has this desk and no desk is listed, or if the run has ended.
-    pub fn claim_or_next(&mut self, own: Looking<J>, desk: u32) -> TurnOf<J>
+    pub fn claim_or_next(&mut self, token: Looking<J>, desk: u32) -> TurnOf<J>
         ensures next { (next_in (λ hand. hand.desk) result, self.new.schedule)
             ≡ claim_or_next_of self.old.schedule desk }
         ensures in_hand { next_in (λ hand. hand.desk) result ≡ Next.Nothing
@@ -133,12 +133,12 @@ impl<J: WorkersIdentity> Shift<J> {
         ensures counted { GetDesks self.old self.new (desks_in result) }
     {
         let next = self.scheduler.claim_or_next(desk);
-        self.gets(next, own)
+        self.gets(next, token)
     }
 
     // The worker's new token, for the answer that the scheduler gave to the worker.
     #[inline(always)]
-    fn gets(&mut self, next: Next, own: Looking<J>) -> TurnOf<J>
+    fn gets(&mut self, next: Next, token: Looking<J>) -> TurnOf<J>
         ensures next { next_in (λ hand. hand.desk) result ≡ next }
         ensures schedule { self.new.schedule ≡ self.old.schedule }
         ensures counted { GetDesks self.old self.new (desks_in result) }
@@ -146,15 +146,16 @@ impl<J: WorkersIdentity> Shift<J> {
         match next {
             Next::Desk(desk) => Turn::Desk(Hand {
                 desk,
-                held: self.workers.takes(own),
+                held: self.workers.takes(token),
             }),
-            Next::Nothing => Turn::Nothing(own),
-            Next::Ended => Turn::Ended(own),
+            Next::Nothing => Turn::Nothing(token),
+            Next::Ended => Turn::Ended(token),
         }
     }
 
-    /// A worker that looks for a desk rests, if some other worker has a desk. Otherwise the worker has to look on.
-    pub fn rests(&mut self, own: Looking<J>) -> Result<Resting<J>, Looking<J>>
+    /// Lets a worker that looks for a desk rest, if some other worker has a desk. Otherwise the worker goes on
+    /// looking.
+    pub fn rests(&mut self, token: Looking<J>) -> Result<Resting<J>, Looking<J>>
         ensures rests { IfOk result (λ _. (self.new.resting ≡ self.old.resting + 1)
             × (self.new.looking + 1 ≡ self.old.looking)) }
         ensures another { IfOk result (λ _. (0 < self.old.holding)
@@ -165,13 +166,13 @@ impl<J: WorkersIdentity> Shift<J> {
         ensures alone { IfErr result (λ _. (self.old.holding ≡ 0) × (self.new ≡ self.old)) }
         ensures goes_on { self.new.schedule.ended ≡ self.old.schedule.ended }
     {
-        let resting = self.workers.rests(own)?;
+        let resting = self.workers.rests(token)?;
         self.scheduler.wait_begins();
         Ok(resting)
     }
 
     /// Lets a worker that rested look for a desk again.
-    pub fn wakes(&mut self, own: Resting<J>) -> Looking<J>
+    pub fn wakes(&mut self, token: Resting<J>) -> Looking<J>
         ensures resting { self.new.resting + 1 ≡ self.old.resting }
         ensures looking { self.new.looking ≡ self.old.looking + 1 }
         ensures holding { (self.new.holding ≡ self.old.holding)
@@ -180,7 +181,7 @@ impl<J: WorkersIdentity> Shift<J> {
         ensures goes_on { self.new.schedule.ended ≡ self.old.schedule.ended }
     {
         self.scheduler.wait_ends();
-        self.workers.wakes(own)
+        self.workers.wakes(token)
     }
 
     /// Ends the run: from now on no worker gets a desk.

@@ -5,7 +5,7 @@
 pub enum Turn<H, L> {
     /// The worker has a desk now.
     Desk(H),
-    /// No desk is listed, and the worker looks on.
+    /// No desk is listed, and the worker goes on looking.
     Nothing(L),
     /// The run ends.
     Ended(L),

@@ -6,11 +6,11 @@ ghost use Rattle.desk_scheduler.specs.Waits.{ended_at, joined_rows, left_rows, l
 use std::alloc::{AllocError, Global};
 use std::marker::Model;
 
-/// For each mailbox, the queue of desks that wait for room in it, each after the full mailbox refused its message. A
-/// mailbox has the number of its receiver's desk, and links to the first and the last waiting desk. A desk has the
-/// number of the mailbox for which it waits, links to the desks before and behind it, and a flag whether it was
-/// called. A desk waits for at most one mailbox. The number of waiting desks is stored, so that no queue is looked up
-/// while no desk waits.
+/// For each mailbox, the queue of desks that wait for room in it; a desk waits after the full mailbox refused its
+/// message. A mailbox has the number of its receiver's desk, and links to the first and the last waiting desk. A desk
+/// has the number of the mailbox for which it waits, links to the desks before and behind it, and a flag whether it
+/// was called. A desk waits for at most one mailbox. The number of waiting desks is stored, so that no queue is
+/// looked up while no desk waits.
 #[derive(Debug, Drop)]
 pub struct WaitQueues {
     first: Vec<Option<u32>>,
@@ -222,8 +222,8 @@ impl WaitQueues {
         mark(&mut self.called, desk, called);
     }
 
-    /// Notes that a worker has taken a desk, which so leaves its queue. Returns whether the desk was called since a
-    /// worker last took it.
+    /// Notes that a worker has taken a desk; the desk then leaves its queue. Returns whether the desk was called
+    /// since a worker last took it.
     #[inline(always)]
     pub fn comes(&mut self, desk: u32) -> bool
         ensures called { result ≡ was_called self.old.called desk }
@@ -257,8 +257,8 @@ fn link(row: &mut Vec<Option<u32>>, at: u32, to: Option<u32>)
     }
 }
 
-// Sets the link of the desk `at`. If there is no such desk, sets the first or the last desk of the mailbox's queue
-// instead.
+// Sets the link of desk `at` to desk `to`. Without a desk `at`, `to` becomes the first or the last desk of
+// the mailbox's queue.
 #[inline(always)]
 fn relink(
     links: &mut Vec<Option<u32>>,

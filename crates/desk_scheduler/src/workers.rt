@@ -150,8 +150,8 @@ pub struct Crew<J: WorkersIdentity> {
 }
 
 /// How many workers have begun, and how many of them have no desk. Three ledgers count the workers that have a desk,
-/// those that look for a desk, and those that rest. Each worker's token is the worker's part of these ledgers. At no
-/// time do all workers rest.
+/// that look for a desk, and that rest. Each worker's token is the worker's part of these ledgers. At no time do all
+/// workers rest.
 #[derive(Drop)]
 pub struct Workers<J: WorkersIdentity> {
     begun: u64,
@@ -246,7 +246,7 @@ impl<J: WorkersIdentity> Workers<J> {
     }
 
     /// Notes that a worker that looks for a desk gets one.
-    pub fn takes(&mut self, own: Looking<J>) -> Holding<J>
+    pub fn takes(&mut self, token: Looking<J>) -> Holding<J>
         ensures holding { self.new.holding.total ≡ self.old.holding.total + 1 }
         ensures looking { self.new.looking.total + 1 ≡ self.old.looking.total }
         ensures rest { (self.new.resting.total ≡ self.old.resting.total)
@@ -262,7 +262,7 @@ impl<J: WorkersIdentity> Workers<J> {
             mut holds,
             mut looks,
             rests,
-        } = own;
+        } = token;
         looking.audit(&mut looks);
         looking.sub(&mut looks, 1);
         holding.add(&mut holds, 1);
@@ -275,7 +275,7 @@ impl<J: WorkersIdentity> Workers<J> {
     }
 
     /// Notes that a worker leaves its desk, and looks for a desk again.
-    pub fn lets_go(&mut self, own: Holding<J>) -> Looking<J>
+    pub fn lets_go(&mut self, token: Holding<J>) -> Looking<J>
         ensures holding { self.new.holding.total + 1 ≡ self.old.holding.total }
         ensures looking { self.new.looking.total ≡ self.old.looking.total + 1 }
         ensures rest { (self.new.resting.total ≡ self.old.resting.total)
@@ -291,7 +291,7 @@ impl<J: WorkersIdentity> Workers<J> {
             mut holds,
             mut looks,
             rests,
-        } = own;
+        } = token;
         holding.audit(&mut holds);
         holding.sub(&mut holds, 1);
         looking.add(&mut looks, 1);
@@ -303,9 +303,9 @@ impl<J: WorkersIdentity> Workers<J> {
         }
     }
 
-    /// Lets a worker that looks for a desk rest, if some other worker has a desk. Otherwise the worker has to look
-    /// on.
-    pub fn rests(&mut self, own: Looking<J>) -> Result<Resting<J>, Looking<J>>
+    /// Lets a worker that looks for a desk rest, if some other worker has a desk. Otherwise the worker goes on
+    /// looking.
+    pub fn rests(&mut self, token: Looking<J>) -> Result<Resting<J>, Looking<J>>
         ensures rests { IfOk result (λ _. (self.new.resting.total ≡ self.old.resting.total + 1)
             × (self.new.looking.total + 1 ≡ self.old.looking.total)) }
         ensures another { IfOk result (λ _. 0 < self.old.holding.total) }
@@ -314,13 +314,13 @@ impl<J: WorkersIdentity> Workers<J> {
         ensures alone { IfErr result (λ _. (self.old.holding.total ≡ 0) × (self.new ≡ self.old)) }
     {
         if self.without >= self.begun {
-            return Err(own);
+            return Err(token);
         }
-        Ok(self.lies_down(own))
+        Ok(self.lies_down(token))
     }
 
     // Lets a worker that looks for a desk rest. Some other worker has a desk.
-    fn lies_down(&mut self, own: Looking<J>) -> Resting<J>
+    fn lies_down(&mut self, token: Looking<J>) -> Resting<J>
         requires { self.old.without < self.old.begun }
         ensures rests { self.new.resting.total ≡ self.old.resting.total + 1 }
         ensures looking { self.new.looking.total + 1 ≡ self.old.looking.total }
@@ -336,7 +336,7 @@ impl<J: WorkersIdentity> Workers<J> {
             holds,
             mut looks,
             mut rests,
-        } = own;
+        } = token;
         looking.audit(&mut looks);
         looking.sub(&mut looks, 1);
         resting.add(&mut rests, 1);
@@ -348,7 +348,7 @@ impl<J: WorkersIdentity> Workers<J> {
     }
 
     /// Lets a worker that rested look for a desk again.
-    pub fn wakes(&mut self, own: Resting<J>) -> Looking<J>
+    pub fn wakes(&mut self, token: Resting<J>) -> Looking<J>
         ensures resting { self.new.resting.total + 1 ≡ self.old.resting.total }
         ensures looking { self.new.looking.total ≡ self.old.looking.total + 1 }
         ensures holding { (self.new.holding.total ≡ self.old.holding.total)
@@ -363,7 +363,7 @@ impl<J: WorkersIdentity> Workers<J> {
             holds,
             mut looks,
             mut rests,
-        } = own;
+        } = token;
         resting.audit(&mut rests);
         resting.sub(&mut rests, 1);
         looking.add(&mut looks, 1);

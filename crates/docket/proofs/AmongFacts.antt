@@ -1,4 +1,4 @@
--- How many different texts stand among given ones.
+-- How many of different texts stand in a list of texts.
 use Rattle.std.proofs.Common.{◌≡◌, ◌≤◌, ◌+◌, ℕ, suc, List, [], ◌∷◌, ◌++◌, Bool, true, false, length, count_by, sym, ◌∙◌, refl, ap, arith, zero-add}
 use Rattle.std.specs.Prelude.{◌&&◌, ◌||◌, if◌then◌else◌, bytes_eq}
 use Rattle.std.specs.List.{list_all, IsDistinct, AllByRecursion}
@@ -24,7 +24,6 @@ count_all p (x ∷ xs) h = count_cons p x xs ∙ by (p x) h (count_all p xs)
     by true e more = let rest = more e in omega (arith, rest)
     by false e more = absurd (cc e)
 
--- if every item that passes one test passes a second test, the second test counts at least as many items
 pub count_wider : (p q : List ℕ → Bool) → ((x : List ℕ) → p x ≡ true → q x ≡ true) → (xs : List (List ℕ)) → count_by p xs ≤ count_by q xs
 count_wider p q h [] = omega arith
 count_wider p q h (x ∷ xs) = rw (count_cons p x xs, count_cons q x xs) (by (p x) refl (q x) refl (count_wider p q h xs))
@@ -39,7 +38,7 @@ count_none : (p : List ℕ → Bool) → ((x : List ℕ) → p x ≡ false) → 
 count_none p h [] = refl
 count_none p h (x ∷ xs) = let rest = count_none p h xs in rw (count_cons p x xs, h x, rest) refl
 
--- in a list of texts that are all different from x, no text equals k, if k is x
+-- if all texts of a list differ from x, and k is x, no text of the list equals k
 count_same : (x k : List ℕ) → x ≡ k → (ys : List (List ℕ)) → AllByRecursion (λ y. bytes_eq x y ≡ false) ys → count_by (λ y. bytes_eq y k) ys ≡ 0
 count_same x k e [] h = refl
 count_same x k e (y ∷ ys) h =
@@ -55,8 +54,6 @@ count_one k (x ∷ xs) d = rw (count_cons (λ x. bytes_eq x k) x xs) (by (bytes_
     by true e le = let none = count_same x k (same_bytes x k e) xs (IsDistinct-head bytes_eq x xs d) in omega (arith, none)
     by false e le = omega (arith, le)
 
--- if each item that passes one test passes one of two others, the two other counts together are at least the first
--- count
 pub count_split : {A : Type 0} (p q r : A → Bool) → ((x : A) → p x ≡ true → (q x || r x) ≡ true) → (xs : List A) → count_by p xs ≤ count_by q xs + count_by r xs
 count_split p q r h [] = omega arith
 count_split p q r h (x ∷ xs) = rw (count_cons p x xs, count_cons q x xs, count_cons r x xs) (by (p x) refl (q x) refl (r x) refl (count_split p q r h xs))
@@ -84,7 +81,6 @@ few_among (k ∷ ks) texts d =
     let rest = few_among ks texts d in
     omega (arith, split, one, rest)
 
--- if the second of two tests is passed, one of the two is
 pub or_right : (a b : Bool) → b ≡ true → (a || b) ≡ true
 or_right true b e = refl
 or_right false b e = e

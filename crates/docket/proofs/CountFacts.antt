@@ -13,8 +13,7 @@ use Rattle.docket.specs.declared.fault.DocketFault.{DocketFault}
 use Rattle.docket.specs.declared.records_fault.RecordsFault.TheVariants.{Docket, TooManyListed}
 use Rattle.docket.proofs.SoundFacts.{both_none}
 
--- after one more record the rank lists have as many names more as this record lists, if it is a
--- list
+-- one more record adds to the names in all rank lists the names that it lists, if it is a rank list
 pub all_listed-if : (rows : List Fields) (row : Fields)
     → all_listed (rows ++ row ∷ []) ≡ (if is_list_row row then all_listed rows + names_listed row else all_listed rows)
 unfolding all_listed
@@ -29,13 +28,13 @@ pub none_listed : all_listed [] ≡ 0
 unfolding all_listed
 none_listed = refl
 
--- the test of the number of listed names, said of the count that its call keeps
+-- the test of the number of listed names, in terms of the count that the code keeps
 pub listed_asked : (lim : Limits) (rows : List Fields) (row : Fields) (listed n : ℕ) → listed ≡ all_listed (rows ++ row ∷ []) → n ≡ next_place rows
     → listed_fault lim rows row ≡ (if is_above (most_listed lim) listed then Some (TooManyListed n) else None)
 unfolding listed_fault
 listed_asked lim rows row listed n e f = rw (e, f) refl
 
--- if a docket's fault, told as a fault of the records, is none, there is no docket's fault
+-- if the docket's fault as a fault of records is none, the docket's fault is none
 pub unmapped : (o : Option DocketFault) → option_map Docket o ≡ None → o ≡ None
 unmapped None e = refl
 unmapped (Some f) e = absurd (cc e)

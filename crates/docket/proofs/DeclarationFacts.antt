@@ -30,8 +30,8 @@ use Rattle.docket.specs.declared.fault.DocketFault.TheVariants.{DeclaredTwice, M
 use Rattle.docket_names.proofs.NameFacts.{is_declared-map}
 use Rattle.docket.proofs.WordFacts.{workers_within}
 
--- what f gives of the rows of one kind, after one more row: what it gives of this row is added if the row is
--- of the kind
+-- the values of f at the rows of one kind, after one more row: if this row is of the kind, its value is
+-- added
 pub images-if : {A : Type 0} (f : Fields → A) (kind : ℕ) (rows : List Fields) (row : Fields)
     → map f (rows_of_kind kind (rows ++ row ∷ [])) ≡ (if is_kind kind row then map f (rows_of_kind kind rows) ++ f row ∷ [] else map f (rows_of_kind kind rows))
 images-if f kind rows row =
@@ -60,12 +60,12 @@ pub quotas_of-if : (rows : List Fields) (row : Fields)
 unfolding quotas_of
 quotas_of-if rows row = images-if (λ r. unwrap_or (number_of (field r 2)) 0) QUOTA rows row
 
--- the entry of a member without a list: none
+-- none, the entry of a member without a list
 abbrev none : Option (List ℕ)
 none = None
 
--- the capacity that the rows declare after one more row is the one before, or else this row's if it is a C
--- row
+-- the capacity that the rows declare after one more row: the one declared before, or else this row's, if
+-- it is a C row
 pub capacity_in-if : (rows : List Fields) (row : Fields)
     → capacity_in (rows ++ row ∷ []) ≡ option_or (capacity_in rows) (if is_kind CAPACITY row then Some (unwrap_or (capacity_of (field row 1)) Full) else None)
 unfolding capacity_in
@@ -80,8 +80,8 @@ capacity_in-if rows row =
     by None false = refl
     by (Some r) b = refl
 
--- the number of workers that the rows declare after one more row is the one before, or else this row's if it
--- is a C row
+-- the number of workers that the rows declare after one more row: the one declared before, or else this
+-- row's, if it is a C row
 pub workers_in-if : (rows : List Fields) (row : Fields)
     → workers_in (rows ++ row ∷ []) ≡ (if is_some (capacity_in rows) then workers_in rows else if is_kind CAPACITY row then workers_of (field row 2) else None)
 unfolding workers_in capacity_in
@@ -179,7 +179,7 @@ by_plain None who rows row kind has some h = record {
   within = tt;
 }
 
--- some row passes a test after one more row exactly if this row passes it or some row passed it before
+-- after one more row, some row passes a test exactly if this row or an earlier row passes the test
 pub list_any-if : (p : Fields → Bool) (rows : List Fields) (row : Fields) → list_any p (rows ++ row ∷ []) ≡ (if p row then true else list_any p rows)
 list_any-if p rows row = list_any-append p rows (row ∷ []) ∙ by (list_any p rows) (p row)
   where
@@ -212,7 +212,7 @@ refuses_first (Some f) second e (inr some) = inr some
 pub refuses_second : (first second : Option DocketFault) (e : DocketFault) → first ≡ None → Refuses second e → Refuses (option_or first second) e
 refuses_second first second e none h = rw none h
 
--- what the builder refuses is told as a fault at this record
+-- the builder's fault becomes a fault of the docket at this record
 pub refuses_builder : (T : Type 0) (n : ℕ) (f : Option ModelFault) (fault : ModelFault) → AnswersFirst {T = T} f (Err fault)
     → Refuses (option_map (at_record n) f) (at_record n fault)
 refuses_builder T n None fault e = inl (ap (at_record n) e)
@@ -272,7 +272,7 @@ pub option_or-none : {A : Type 0} (o : Option A) → o ≡ option_or o None
 option_or-none None = refl
 option_or-none (Some x) = refl
 
--- the test for a repeated name in a Q row, said of the names that its call keeps
+-- the test for a repeated name in a Q row, in terms of the names that the code keeps
 pub quota_asked : (before : List Fields) (row : Fields) (names : List (List ℕ)) (name : List ℕ) (n : ℕ) → kind_of row ≡ QUOTA
     → names ≡ programmes_of before → name ≡ field row 1 → n ≡ next_place before
     → repeat_fault before row ≡ unless (not (is_declared names name)) (DeclaredTwice n)
@@ -288,7 +288,7 @@ pub resident_asked : (before : List Fields) (row : Fields) (names : List (List �
     → repeat_fault before row ≡ unless (not (is_declared names name)) (DeclaredTwice n)
 resident_asked before row names name n kind e f g = rw (repeat_fault-resident before row kind, e, f, g) refl
 
--- the test of the limits in a Q row, said of the quota that the builder's call was given
+-- the test of the limits in a Q row, in terms of the quota that the builder was given
 pub quota_limited : (d : Draft) (before : List Fields) (row : Fields) (q n : ℕ) → kind_of row ≡ QUOTA → d.quotas ≡ quotas_of before
     → q ≡ unwrap_or (number_of (field row 2)) 0 → n ≡ next_place before
     → limit_fault d.limits before row ≡ option_map (at_record n) (programme_fault d q)
@@ -340,12 +340,10 @@ pub test_passed : (lim : Limits) (before : List Fields) (row : Fields) (test : B
     → limit_fault lim before row ≡ None → option_or (repeat_fault before row) (limit_fault lim before row) ≡ None
 test_passed lim before row test fault e f g = rw (e, f, g) refl
 
--- an option that fails the test for a value is none
 pub none_is : {A : Type 0} (o : Option A) → is_some o ≡ false → o ≡ None
 none_is None e = refl
 none_is (Some x) e = absurd (cc e)
 
--- if the first of two options is none, both together are the second
 pub option_or-first : {A : Type 0} (o p : Option A) → is_some o ≡ false → p ≡ option_or o p
 option_or-first None p e = refl
 option_or-first (Some x) p e = cc e

@@ -24,7 +24,6 @@ use Rattle.docket.specs.declared.vocabulary.TheConstants.{QUOTA, RESIDENT_LIST, 
 use Rattle.docket.specs.declared.fault.DocketFault.{DocketFault}
 use Rattle.docket.specs.declared.records_fault.RecordsFault.{RecordsFault}
 
--- a list with an item is not empty
 not_empty : {A : Type 0} (x : A) (xs : List A) → nat_eq (length (x ∷ xs)) 0 ≡ false
 not_empty x xs = search rules
 
@@ -72,8 +71,8 @@ pub sheet_free : (rows : List Fields) → has_sheet rows ≡ false → sheet_fau
 unfolding sheet_fault
 sheet_free rows e = rw e refl
 
--- the first fault after the first pass is that of the lists, else of the pairs, else of the sheet, else of the
--- events
+-- the first fault after the first pass is the lists' fault, else the fault of too many pairs, else the
+-- sheet's, else the events'
 pub later_is : (lim : Limits) (rows : List Fields) → later_fault lim rows
     ≡ option_or (option_or (first_from (ranking_fault rows) [] rows) (pairs_fault lim rows)) (option_or (sheet_fault rows) (first_from (event_fault rows) [] rows))
 unfolding later_fault
@@ -94,7 +93,6 @@ pub resident_name-is : (d : Contents) (r : ℕ) (name : List ℕ) → slice_get 
 unfolding resident_name
 resident_name-is d r name h = get_or_from_slice_get d.residents r name [] h
 
--- two contents with the same parts are equal
 pub same_contents : {a b : Contents} → a.programmes ≡ b.programmes → a.residents ≡ b.residents → a.instance ≡ b.instance → a.sheet ≡ b.sheet → a.journal ≡ b.journal → a ≡ b
 same_contents p r n s j = λ i. record { programmes = p i; residents = r i; instance = n i; sheet = s i; journal = j i }
 

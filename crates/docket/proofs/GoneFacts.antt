@@ -24,7 +24,7 @@ use Rattle.docket.proofs.SoundFacts.{both_none, unless_none}
 use Rattle.docket.proofs.RankingFacts.{sound_row, off, bytes_eq-swap, lists_of-other, distinct_programmes, distinct_residents}
 use Rattle.docket.proofs.WithdrawalFacts.{withdrawn_of-other}
 
--- after one more W row of a side, the flag of its member is set and the others are as before
+-- one more W row of a side sets the flag of its member and leaves all other flags unchanged
 pub withdrawn_of-owner : (side : List ℕ) (names : List (List ℕ)) (before : List Fields) (row : Fields) (i : ℕ) → distinct names ≡ true
     → number_in names (field row 2) ≡ Some i → is_row_of withdrawal_kind side row ≡ true
     → withdrawn_of side names (before ++ row ∷ []) ≡ slice_set (withdrawn_of side names before) i true
@@ -90,8 +90,8 @@ pub withdrawal_unnamed : (rows before : List Fields) (row : Fields) (names : Lis
 unfolding ranking_fault
 withdrawal_unnamed rows before row names n kind on at place = rw (kind, on, at, place) refl
 
--- the builder has what it must after a W row, if it sets the flag of the row's member and changes
--- nothing else
+-- the builder is right after a W row if it sets the flag of the row's member and changes nothing
+-- else
 ranked_gone : (b e : Draft) (rows : List Fields) (k : ℕ) → k < length rows → kind_of (row_at rows k) ≡ withdrawal_kind → IsRanked b rows (take k rows)
     → e.quotas ≡ b.quotas → e.programme_lists ≡ b.programme_lists → e.resident_lists ≡ b.resident_lists
     → e.programmes_withdrawn ≡ withdrawn_of (codes "P") (programmes_of rows) (take k rows ++ row_at rows k ∷ [])

@@ -1,5 +1,5 @@
--- If the store is cut, some name in its entries is no member's. So the second pass ends within the entries, and it ends as
--- it would with all entries.
+-- If the store does not keep all entries, some kept name is no member's. So the second pass ends within the kept
+-- entries, with the same fault.
 use Rattle.std.proofs.Common.{◌≡◌, ◌≤◌, ◌<◌, ◌+◌, ℕ, List, [], ◌∷◌, ◌++◌, Bool, true, false, length, count_by, sym, ◌∙◌, refl, ap, subst, arith, Option, Some, None, append_assoc, append-nil, is_some}
 use Rattle.std.specs.Prelude.{◌||◌, bytes_eq}
 use Rattle.std.specs.List.{list_any, list_all, IsDistinct}
@@ -46,14 +46,14 @@ programme_among rows text e = list_any-append (bytes_eq text) (programmes_of row
 resident_among : (rows : List Fields) (text : List ℕ) → is_declared (residents_of rows) text ≡ true → is_among (members_of rows) text ≡ true
 resident_among rows text e = list_any-append (bytes_eq text) (programmes_of rows) (residents_of rows) ∙ or_right (list_any (bytes_eq text) (programmes_of rows)) _ (sym (is_declared-any (residents_of rows) text) ∙ e)
 
--- if the names of two lists are each a member's, so are the names of both together
+-- if all names of two lists are members' names, all names of the joined lists are
 known_both : (rows : List Fields) (xs ys : List (List ℕ)) → AreKnownNames rows xs → AreKnownNames rows ys → AreKnownNames rows (xs ++ ys)
 known_both rows xs ys h i = list_all-append (is_among (members_of rows)) xs ys ∙ and_from _ _ h i
 
 known_parts : (rows : List Fields) (xs ys : List (List ℕ)) → AreKnownNames rows (xs ++ ys) → AreKnownNames rows xs × AreKnownNames rows ys
 known_parts rows xs ys h = and_parts (list_all (is_among (members_of rows)) xs) (list_all (is_among (members_of rows)) ys) (sym (list_all-append (is_among (members_of rows)) xs ys) ∙ h)
 
--- a text that stands in a list of which each name passes a test passes this test
+-- if all names of a list pass a test, a text that stands in the list passes it
 among_known : (p : List ℕ → Bool) (names : List (List ℕ)) (text : List ℕ) → list_all p names ≡ true → is_among names text ≡ true → p text ≡ true
 among_known p [] text all there = absurd (cc there)
 among_known p (x ∷ xs) text all there =
@@ -64,7 +64,7 @@ among_known p (x ∷ xs) text all there =
     by true e own more h = ap p (same_bytes text x e) ∙ own
     by false e own more h = more h
 
--- more different names than there can be members are not all members'
+-- if there are more different names than there can be members, some name is no member's
 pub too_many : (texts : List (List ℕ)) (rows : List Fields) (names : List (List ℕ)) (brought : ℕ) → AreFew rows → IsDistinct bytes_eq texts → MOST_NAMES < brought
     → brought ≤ count_by (is_among names) texts → AreKnownNames rows names → ⊥
 too_many texts rows names brought few distinct over counted known =
@@ -110,7 +110,7 @@ row_known rows done rest row (Withdrawal Residents) owner listed is none shown =
     let declared : is_declared (residents_of rows) (field row 2) ≡ true = rw shown.1 at (unless_none (is_declared (names_on (field row 1) rows) (field row 2)) (UnknownName (next_place done)) own) in
     and_from _ _ (resident_among rows owner (ap (is_declared (residents_of rows)) shown.2 ∙ declared)) (ap (list_all (is_among (members_of rows))) shown.3)
 
--- the first pass found no fault in the rows, and they are at most MAX_RECORDS
+-- the first pass finds no fault in the rows, and there are at most MAX_RECORDS of them
 pub record IsSound (rows : List Fields) : Type 0 where
   pub none : first_from (reading_fault widest) [] rows ≡ None
   pub few : length rows ≤ MAX_RECORDS
@@ -141,7 +141,7 @@ done_known rows before (row ∷ front) after sound is none =
     ap (list_all (is_among (members_of rows))) (flat_map-append entry_names (entry_in (length before + 1) row) (entries_from (length before + 1) front))
     ∙ known_both rows (names_in (entry_in (length before + 1) row)) (names_in (entries_from (length before + 1) front)) here next
 
--- a cut list with an unknown name is enough for the test of the whole list
+-- the second pass can test a cut list that has an unknown name in place of the whole list
 show_cut : (others : List (List ℕ)) (row : Fields) (short rest listed : List (List ℕ)) → listed ≡ short ++ rest → ShowList others row listed
     → (list_all (is_declared others) short ≡ true → ⊥) → ShowList others row short
 show_cut others row short rest listed is show unknown = by (list_all (is_declared others) short) refl
@@ -152,7 +152,7 @@ show_cut others row short rest listed is show unknown = by (list_all (is_declare
         let whole : list_all (is_declared others) listed ≡ false = ap (list_all (is_declared others)) is ∙ list_all-append (is_declared others) short rest ∙ rw e refl in
         record { same = e ∙ sym whole ∙ show.same; whole = λ h. absurd (unknown h) }
 
--- a cut entry with a name that is no member's is enough for the test of its row
+-- the second pass can test a cut entry with a name that is no member's in place of its row
 row_cut : (rows done after : List Fields) (row : Fields) (kind : ListKind) (owner : List ℕ) (short rest listed : List (List ℕ)) → rows ≡ done ++ row ∷ after → listed ≡ short ++ rest
     → ShowsRow rows row kind owner listed → (AreKnownNames rows (owner ∷ short) → ⊥) → ShowsRow rows row kind owner short
 row_cut rows done after row (Ranking Programmes) owner short rest listed is cut shown unknown = (
@@ -175,7 +175,8 @@ row_cut rows done after row (Withdrawal side) owner short rest listed is cut sho
     nil [] e = refl
     nil (x ∷ xs) e = absurd (cc e)
 
--- the first entries, the last of them cut, are enough where some name in them is no member's
+-- the second pass can go over the first entries alone, whose last one may be cut, if some name in
+-- them is no member's
 pub left_cut : (rows done rest : List Fields) (left : List ListEntry) → IsSound rows → rows ≡ done ++ rest → AreFront left (entries_from (length done) rest)
     → (AreKnownNames rows (names_in (entries_of done ++ left)) → ⊥) → AreLeft rows done rest left
 unfolding AreLeft AreFront entries_from

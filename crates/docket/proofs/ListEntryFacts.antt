@@ -1,4 +1,5 @@
--- Which entry a row of the second pass has, and that the entry shows the row.
+-- The entry of a rank list or a withdrawal, and that the second pass can test the entry in place of
+-- the row.
 use Rattle.std.proofs.Common.{◌≡◌, ◌⊎◌, ◌≤◌, ℕ, List, [], ◌∷◌, ◌++◌, Bool, true, false, length, drop, refl, rules, Some, None, inl, inr}
 use Rattle.std.specs.Prelude.{◌||◌, bytes_eq, codes, not}
 use Rattle.std.specs.List.{list_any}
@@ -32,7 +33,7 @@ ranking_kind row h = by (is_kind PROGRAMME_LIST row) refl (is_kind RESIDENT_LIST
     by false e false f true g h = inr (inr (search (rules, g)))
     by false e false f false g h = absurd (cc h)
 
--- the text has a side: it is the word of programmes or of residents
+-- the text stands for a side: programmes or residents
 pub record HasSide (text : List ℕ) : Type 0 where
   pub side : Side
   pub is : side_of text ≡ Some side
@@ -57,7 +58,7 @@ sound_side before row kind none =
     let sided = (both_none (counted (next_place before) 3 row) (option_or (unless (is_side (field row 1)) (BadWithdrawal (next_place before))) (unless (is_name (field row 2)) (BadName (next_place before)))) whole).1 in
     unless_none (is_side (field row 1)) (BadWithdrawal (next_place before)) (both_none (unless (is_side (field row 1)) (BadWithdrawal (next_place before))) (unless (is_name (field row 2)) (BadName (next_place before))) sided).0
 
--- the entry of a row, which shows the row
+-- the row has an entry, and the second pass can test this entry in place of the row
 pub record HasShown (rows : List Fields) (n : ℕ) (row : Fields) : Type 0 where
   pub entry : ListEntry
   pub is : entry_in n row ≡ entry ∷ []

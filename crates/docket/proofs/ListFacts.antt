@@ -18,7 +18,7 @@ use Rattle.docket.proofs.AmongFacts.{or_left, or_right, count_append, count_all,
 use Rattle.docket.proofs.ListCountFacts.{have_starts}
 use Rattle.docket.proofs.ListWalkFacts.{within_or_over, all_wider, number_text}
 
--- the entries of all records after one more record are those before and this record's
+-- one more record adds its entry, if it has one, to the entries of all records
 entries_from-push : (n : ℕ) (rows : List Fields) (row : Fields) → entries_from n (rows ++ row ∷ []) ≡ entries_from n rows ++ entry_in (n + length rows + 1) row
 unfolding entries_from
 entries_from-push n [] row = let same : n + 1 ≡ n + 0 + 1 = omega arith in append-nil (entry_in (n + 1) row) ∙ ap (λ (k : ℕ). entry_in k row) same
@@ -38,7 +38,7 @@ no_entry n row e =
     let second = or_parts (is_kind PROGRAMME_LIST row) (is_kind RESIDENT_LIST row) first.0 in
     rw (second.0, second.1, first.1) refl
 
--- the entries tell the same texts by their numbers, after texts were added
+-- the numbers in the entries stand for the same texts after texts were added
 pub within_grown : (texts more : Fields) (entries : List KeptEntry) → StartsWith texts more → All (IsWithin texts) entries → All (IsWithin more) entries
 within_grown texts more entries s h = All-weaker (IsWithin texts) (IsWithin more) one entries h
   where
@@ -62,7 +62,7 @@ count_grown p q h texts more n s le =
     let wide = count_wider p q h texts in
     rw whole (omega (arith, split, wide, le))
 
--- entries that are the first of some stay the first after more entries
+-- the first entries of a list are still its first entries after more entries were added
 pub front_more : (kept all more : List ListEntry) → AreFront kept all → AreFront kept (all ++ more)
 unfolding AreFront
 front_more [] all more h = tt
@@ -70,7 +70,7 @@ front_more (e ∷ kept) [] more h = absurd h
 front_more (e ∷ []) (a ∷ all) more h = h
 front_more (e ∷ f ∷ kept) (a ∷ all) more h = (h.0, front_more (f ∷ kept) all more h.1)
 
--- all entries with a last one that was cut are the first of all entries with this one whole
+-- a list of entries whose last one is cut has the first entries of the list with this entry whole
 pub front_cut : (all : List ListEntry) (e a : ListEntry) → IsCutFrom a e → AreFront (all ++ e ∷ []) (all ++ a ∷ [])
 unfolding AreFront
 front_cut [] e a h = h
@@ -109,7 +109,7 @@ lists_past texts lists rows row over h = record {
   counted = h.counted;
 }
 
--- the names in the entries after one more entry are those before, then those of this entry
+-- one more entry adds its names, in order, to the names in the entries
 pub names_push : (entries : List ListEntry) (e : ListEntry) → names_in (entries ++ e ∷ []) ≡ names_in entries ++ entry_names e
 names_push entries e = flat_map-append entry_names entries (e ∷ []) ∙ ap (λ (l : List (List ℕ)). names_in entries ++ l) (append-nil (entry_names e))
 

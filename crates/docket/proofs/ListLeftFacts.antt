@@ -1,4 +1,5 @@
--- The second pass, entry by entry: which records are left, and that the entries left are enough for them.
+-- The second pass goes over entries, each of which stands for a record. `done` are the records that it
+-- has gone over, and `left` the entries that it has not reached.
 use Rattle.std.proofs.Common.{◌≡◌, ◌<◌, ◌+◌, List, [], ◌∷◌, ◌++◌, Bool, true, false, length, take, sym, ◌∙◌, refl, ap, subst, arith, None, append_assoc, append-nil, get_or}
 use Rattle.std.specs.Prelude.{◌||◌}
 use Rattle.std.proofs.lemmas.Bool.{or_parts}
@@ -16,7 +17,8 @@ use Rattle.docket.proofs.PassFacts.{first_from-push}
 use Rattle.docket.proofs.RankingFacts.{ranking_fault-other}
 use Rattle.docket.proofs.RankedFacts.{ranked_other}
 
--- the first entry left shows this row; if the row has no fault, the other entries are enough for the rows after it
+-- the first entry in `left` is that of this row; if the row has no fault, the other entries have the property
+-- `After`
 pub record FirstLeft (rows done : List Fields) (row : Fields) (left : List ListEntry) (After : List ListEntry → Type 0) : Type 0 where
   pub entry : ListEntry
   pub more : List ListEntry
@@ -25,18 +27,19 @@ pub record FirstLeft (rows done : List Fields) (row : Fields) (left : List ListE
   pub shown : ShowsRow rows row entry.kind entry.owner entry.listed
   pub after : first_from (ranking_fault rows) [] (done ++ row ∷ []) ≡ None → After more
 
--- if the row is a list or a withdrawal and no row before has a fault, the first entry left is the row's, and the
--- others have the property `After`; any other row has no entry
+-- if the row is a list or a withdrawal, and no earlier row has a fault, the first entry in `left` is that of the
+-- row, and the other entries have the property `After`; a row of another kind has no entry
 abbrev pub AtRow : Bool → List Fields → List Fields → Fields → List ListEntry → (List ListEntry → Type 0) → Type 0
 AtRow true rows done row left After = first_from (ranking_fault rows) [] done ≡ None → FirstLeft rows done row left After
 AtRow false rows done row left After = After left
 
--- these entries are enough for the rows after those that are done, as far as the first fault
+-- up to the first fault, `left` has an entry of each list and each withdrawal after the records
+-- `done`
 unfoldable pub AreLeft : List Fields → List Fields → List Fields → List ListEntry → Type 0
 AreLeft rows done [] left = left ≡ []
 AreLeft rows done (row ∷ rest) left = AtRow (is_ranking_row row) rows done row left (λ more. AreLeft rows (done ++ row ∷ []) rest more)
 
--- the row stands in all rows, directly after those that are done
+-- in the list of all rows, the row follows directly after the rows `done`
 pub record IsAmid (rows done : List Fields) (row : Fields) : Type 0 where
   pub there : length done < length rows
   pub before : take (length done) rows ≡ done
@@ -74,7 +77,7 @@ none_past rows done row e none =
     let parts = other_parts row e in
     first_from-push (ranking_fault rows) done row none (ranking_fault-other rows done row parts.0 parts.1 parts.2)
 
--- the next list or withdrawal stands after the rows that are done, and its entry is the first of those left
+-- the next list or withdrawal after the rows `done`, whose entry is the first in `left`
 pub record NextLeft (b : Draft) (rows : List Fields) (entry : ListEntry) (more : List ListEntry) : Type 0 where
   pub done : List Fields
   pub row : Fields
@@ -113,7 +116,7 @@ next_left b rows done (row ∷ rest) entry more is ranked none h = by (is_rankin
         }
     by false e h go = go (ranked_past b rows done rest row is e ranked) (none_past rows done row e none) h
 
--- without entries left, no row after those that are done is a list or a withdrawal
+-- if `left` is empty, no row after the rows `done` is a list or a withdrawal
 pub none_left : (b : Draft) (rows done rest : List Fields) → rows ≡ done ++ rest → IsRanked b rows done → first_from (ranking_fault rows) [] done ≡ None → AreLeft rows done rest []
     → IsRanked b rows rows × (first_from (ranking_fault rows) [] rows ≡ None)
 unfolding AreLeft

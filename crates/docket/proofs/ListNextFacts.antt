@@ -1,4 +1,4 @@
--- The next entry of the second pass: what its numbers say of the record.
+-- The next entry of the second pass: what the numbers in it say about its record.
 use Rattle.std.proofs.Common.{◌≡◌, ◌<◌, ◌+◌, ℕ, List, [], ◌∷◌, ◌++◌, true, false, length, take, drop, map, sym, ◌∙◌, refl, ap, subst, Option, Some, None, is_some, get_or}
 use Rattle.std.specs.Prelude.{◌&&◌, not, if◌then◌else◌, nat_eq, bytes_eq, position, slice_get, slice_index_or, unwrap_or, Result, Ok, Err, OnOk}
 use Rattle.std.specs.List.{list_all, IsDistinct}
@@ -29,15 +29,14 @@ use Rattle.docket_names.proofs.MemberFacts.{member_named}
 use Rattle.docket.proofs.DeclarationFacts.{refuses_first, refuses_second, no_fault}
 use Rattle.docket.proofs.RankingFacts.{place_at, ranking_fault-unowned, resident_declared, listed_answer, listed_fine}
 
--- if a text is the name of a member, the place of its number among the members is the place of the
--- name among the names
+-- a member stands at the same place among the members' text numbers and among the members' names
 pub member_is : (texts : Fields) (members : List ℕ) (names : List (List ℕ)) (n : ℕ) → AreNames texts members names → IsDistinct bytes_eq texts → n < length texts
     → position (nat_eq n) members ≡ number_in names (slice_index_or texts n [])
 member_is texts members names n are d lt =
     member_named texts members n (slice_index_or texts n []) d are.within (slice_get-get_or texts n [] lt) ∙ ap (λ (l : List (List ℕ)). number_in l (slice_index_or texts n [])) are.texts_are
 
--- the numbers are all members' exactly if their texts are all declared names, and then they give
--- the same members
+-- all these numbers are members' numbers exactly if all their texts are declared names; both then
+-- give the same members
 pub members_are : (texts : Fields) (members : List ℕ) (names : List (List ℕ)) (numbers : List ℕ) → AreNames texts members names → IsDistinct bytes_eq texts → AreNumbersOf texts numbers
     → (list_all (is_member members) numbers ≡ list_all (is_declared names) (texts_at texts numbers)) × (map (member_at members) numbers ≡ map (member_in names) (texts_at texts numbers))
 unfolding texts_at
@@ -47,8 +46,8 @@ members_are texts members names (n ∷ numbers) are d all =
     let rest = members_are texts members names numbers are d (All-tail (λ (n : ℕ). n < length texts) n numbers all) in
     ((λ i. is_some (here i) && rest.0 i), (λ i. unwrap_or (here i) 0 ∷ rest.1 i))
 
--- if the members of the first i numbers were found, and that of the next, then those of the first i
--- + 1 are
+-- if the members with the first i numbers and the member with number i were found, the members with
+-- the first i + 1 numbers were found
 pub members_more : (members numbers : List ℕ) (i n m : ℕ) (items next : List ℕ) → i < length numbers → n ≡ get_or numbers i 0 → position (nat_eq n) members ≡ Some m
     → items ≡ map (member_at members) (take i numbers) → list_all (is_member members) (take i numbers) ≡ true → next ≡ items ++ m ∷ []
     → (next ≡ map (member_at members) (take (i + 1) numbers)) × (list_all (is_member members) (take (i + 1) numbers) ≡ true)
@@ -59,7 +58,7 @@ members_more members numbers i n m items next lt is at was all now =
       rw (list_all_more (is_member members) numbers i 0 lt, all, at2) refl,
     )
 
--- what the numbers of a rank list say of its record
+-- what the numbers in a rank list's entry say about its record
 pub record ListSays (rows : List Fields) (k : ℕ) (names others : List (List ℕ)) (members numbers : List ℕ) (i : ℕ) : Type 0 where
   pub owner : number_in names (field (row_at rows k) 1) ≡ Some i
   pub same : list_all (is_member members) numbers ≡ list_all (is_declared others) (drop 2 (row_at rows k))
@@ -93,7 +92,8 @@ resident_says texts programmes residents builder rows k place owner i listed h a
     list_says texts rows k owner i (residents_of rows) (programmes_of rows) residents programmes listed h.known.residents_are h.known.programmes_are h.known.distinct h.within.0 h.within.1 at
     h.shown.1 h.shown.2
 
--- a P row's owner that is no member's number is an unknown name of the row
+-- if the owner's number in a P row's entry is no programme's, the row has the fault of an unknown
+-- name
 pub programme_unknown : (texts : Fields) (programmes residents : List ℕ) (builder : Draft) (rows : List Fields) (k place owner : ℕ) (listed : List ℕ)
     → IsNext texts programmes residents builder rows k (record { place = place; kind = Ranking Programmes; owner = owner; listed = listed }) → position (nat_eq owner) programmes ≡ None
     → ranking_fault rows (take k rows) (row_at rows k) ≡ Some (UnknownName place)
@@ -108,13 +108,13 @@ resident_known texts programmes residents builder rows k place owner listed h no
     resident_declared rows k h.there h.shown.0
     (ap (number_in (residents_of rows)) (sym h.shown.1) ∙ sym (member_is texts residents (residents_of rows) owner h.known.residents_are h.known.distinct h.within.0) ∙ none)
 
--- if a listed number is no member's, the record is refused for an unknown name
+-- if a listed number is no member's, the record has the fault of an unknown name
 pub unknown_refused : (place : ℕ) (others : List (List ℕ)) (row : Fields) (members numbers : List ℕ) (second : Option DocketFault) (e : DocketFault)
     → list_all (is_member members) numbers ≡ list_all (is_declared others) (drop 2 row) → Refuses (unless (list_all (is_member members) numbers) (UnknownName place)) e
     → Refuses (option_or (unknown_fault place others row) second) e
 unknown_refused place others row members numbers second e same h = refuses_first (unknown_fault place others row) second e (rw same at h)
 
--- if no listed name is unknown, the record's fault is the builder's
+-- if no listed name is unknown, the record has only the fault that the builder finds
 pub list_fine : (place : ℕ) (others : List (List ℕ)) (row : Fields) (members numbers : List ℕ) (f : Option ModelFault)
     → list_all (is_member members) numbers ≡ list_all (is_declared others) (drop 2 row) → unless (list_all (is_member members) numbers) (UnknownName place) ≡ None
     → f ≡ (if not (has_no_repeats (listed_in others row)) then Some model.ListedTwice else None) → f ≡ None → listing_fault place others row ≡ None
@@ -128,7 +128,7 @@ pub list_refused : (T : Type 0) (place : ℕ) (others : List (List ℕ)) (row : 
 list_refused T place others row members numbers f r fault same known is answers e =
     refuses_second (unknown_fault place others row) _ _ (rw same at known) (listed_answer T place (has_no_repeats (listed_in others row)) r f is answers fault e)
 
--- if one of the numbers is no member's, not all are members'
+-- if one of the numbers is no member's, not all numbers are members'
 pub member_missing : (members numbers : List ℕ) (i : ℕ) → i < length numbers → position (nat_eq (get_or numbers i 0)) members ≡ None → list_all (is_member members) numbers ≡ false
 member_missing members numbers i lt none = list_all_at (is_member members) numbers i 0 lt (ap is_some none)
 
@@ -149,7 +149,7 @@ pub on_ok : {T E A B : Type 0} (r : Result T E) → OnOk r A → (A → B) → O
 on_ok (Ok x) a f = f a
 on_ok (Err e) a f = tt
 
--- the next entry is the one that the store gave, if the kind that it was given with is its own
+-- the entry that the store returned is the next entry, if its parts are equal to the parts returned
 pub next_as : (texts : Fields) (programmes residents : List ℕ) (builder : Draft) (rows : List Fields) (k : ℕ) (entries : List KeptEntry) (j : ℕ) (entry : KeptEntry) (place owner : ℕ) (listed : List ℕ) (kind same : ListKind)
     → slice_get entries j ≡ Some (record { place = place; kind = kind; owner = owner; listed = listed }) → kind ≡ same → slice_get entries j ≡ Some entry
     → IsNext texts programmes residents builder rows k entry → IsNext texts programmes residents builder rows k (record { place = place; kind = same; owner = owner; listed = listed })

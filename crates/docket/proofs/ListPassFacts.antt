@@ -14,7 +14,8 @@ use Rattle.docket.specs.Rows.{row_at}
 use Rattle.docket.proofs.PassFacts.{pass_more}
 use Rattle.docket.proofs.ListLeftFacts.{AreLeft, amid, next_left, none_left}
 
--- the builder has the rows that are done, and the entries left are enough for the other rows
+-- the builder has what the rows that the pass has gone over say, and `left` has the entries of the
+-- remaining rows
 pub record IsAt (texts : Fields) (rows : List Fields) (builder : Draft) (left : List KeptEntry) : Type 0 where
   pub done : List Fields
   pub rest : List Fields
@@ -59,11 +60,12 @@ next_at texts programmes residents builder rows entry more known h =
           };
     }
 
--- after the last entry the second pass has taken all rows and found no fault
+-- if no entry is left, the second pass has gone over all rows and found no fault
 pub all_done : (texts : Fields) (rows : List Fields) (builder : Draft) → IsAt texts rows builder [] → IsRanked builder rows rows × (first_from (ranking_fault rows) [] rows ≡ None)
 all_done texts rows builder h = none_left builder rows h.done h.rest h.all h.ranked h.none h.enough
 
--- there is an entry at place j, and the entries from place j on are it and those after it
+-- there is an entry at place j, and the entries from place j on are this entry and the entries
+-- after it
 pub record HasSplit (entries : List KeptEntry) (j : ℕ) : Type 0 where
   pub entry : KeptEntry
   pub at : slice_get entries j ≡ Some entry

@@ -31,7 +31,7 @@ named_parts [] le = absurd (omega (arith, le))
 named_parts (x ∷ []) le = absurd (omega (arith, le))
 named_parts (x ∷ y ∷ row) le = ap (λ (t : List ℕ). is_name t && list_all is_name row) (sym (field-get_or (x ∷ y ∷ row) 1))
 
--- the fault that a P or R row has by itself is that not all its names are names, or none
+-- the only fault that a P or R row can have by itself is that a field after the first is no name
 pub list_tested : (n : ℕ) (row : Fields) (named : Bool) → 2 ≤ length row → named ≡ (is_name (field row 1) && list_all is_name (drop 2 row)) → list_row_fault n row ≡ unless named (BadName n)
 list_tested n row named le is =
     let wide : nat_lt 1 (length row) ≡ true = search (rules, le) in
@@ -59,8 +59,8 @@ no_side text h = by (bytes_eq text (codes "P")) refl (bytes_eq text (codes "R"))
     by false e true f h = absurd (cc h)
     by false e false f h = rw (e, f) refl
 
--- the fault that a W row of three fields with a known side has by itself is that its name is no
--- name, or none
+-- the only fault that a W row of three fields with a known side can have by itself is that field 2
+-- is no name
 pub gone_tested : (n : ℕ) (row : Fields) (side : Side) (named : Bool) → length row ≡ 3 → side_of (field row 1) ≡ Some side → named ≡ is_name (field row 2)
     → withdrawal_row_fault n row ≡ unless named (BadName n)
 gone_tested n row side named size at is = let sided = (side_is (field row 1) side at).1 in rw (size, sided, is) refl

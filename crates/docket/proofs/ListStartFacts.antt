@@ -1,4 +1,4 @@
--- Before the second pass, the entries of the store are enough for all records.
+-- Before the second pass, the store has an entry of each rank list and each withdrawal.
 use Rattle.std.proofs.Common.{◌≡◌, ◌≤◌, ◌+◌, ℕ, List, [], ◌∷◌, ◌++◌, Bool, true, false, length, sym, ◌∙◌, refl, ap, subst, None, append_assoc}
 use Rattle.std.proofs.lemmas.List.{length-append}
 use Rattle.records.specs.Reading.{Fields}
@@ -10,12 +10,12 @@ use Rattle.docket.proofs.ListFacts.{no_entry}
 use Rattle.docket.proofs.ListEntryFacts.{has_shown}
 use Rattle.docket.proofs.ListLeftFacts.{AreLeft, AtRow}
 
--- one row more is done
+-- a list with one more row at its end is longer by one
 pub done_more : (done : List Fields) (row : Fields) → length (done ++ row ∷ []) ≡ length done + 1
 done_more done row = length-append done (row ∷ [])
 
--- all entries of the rows that follow are enough for these rows, if the first pass accepted all
--- rows
+-- if the first pass accepted all rows, the entries of the rows `rest` are what the second pass
+-- needs for these rows
 pub left_whole : (rows done rest : List Fields) → first_from (reading_fault widest) [] rows ≡ None → length rows ≤ MAX_RECORDS → rows ≡ done ++ rest
     → AreLeft rows done rest (entries_from (length done) rest)
 unfolding AreLeft entries_from

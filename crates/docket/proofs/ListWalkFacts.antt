@@ -1,4 +1,4 @@
--- What is kept of the names of one record, name by name.
+-- How the names of one record are kept, name by name.
 use Rattle.std.proofs.Common.{◌≡◌, ◌⊎◌, ◌≤◌, ◌<◌, ◌+◌, ◌-◌, ℕ, List, [], ◌∷◌, ◌++◌, Bool, true, false, length, get_or, take, drop, map, sym, ◌∙◌, refl, ap, arith, rules, Some, inl, inr, append_assoc, append-nil}
 use Rattle.std.specs.Prelude.{nat_le, slice_get, slice_index_or, bytes_eq}
 use Rattle.std.specs.List.{list_any, list_all}
@@ -27,14 +27,15 @@ within_or_over a b = by (nat_le a b) refl
     by true e = inl (search (rules, e))
     by false e = inr (search (rules, e))
 
--- if all items pass a test, they all pass a wider one
+-- items that all pass a test all pass a wider test
 pub all_wider : (p q : List ℕ → Bool) → ((t : List ℕ) → p t ≡ true → q t ≡ true) → (xs : List (List ℕ)) → list_all p xs ≡ true → list_all q xs ≡ true
 all_wider p q h [] e = refl
 all_wider p q h (x ∷ xs) e =
     let parts = and_parts (p x) (list_all p xs) e in
     and_from (q x) (list_all q xs) (h x parts.0) (all_wider p q h xs parts.1)
 
--- the texts that came with some names and then with more names are those that came with all of them
+-- the texts that were added with a first list of names and then with a second list are texts of the
+-- joined list
 pub have_both : (texts more most first second : List (List ℕ)) → HaveJoined texts more first → HaveJoined more most second → HaveJoined texts most (first ++ second)
 have_both texts more most first second h i = record {
   extra = h.extra ++ i.extra;
@@ -45,7 +46,7 @@ have_both texts more most first second h i = record {
       (all_wider (is_among second) (is_among (first ++ second)) (λ t e. list_any-append (bytes_eq t) first second ∙ or_right (list_any (bytes_eq t) first) _ e) i.extra i.among);
 }
 
--- no text comes with no names
+-- without names no text is added
 pub joined_none : (texts more : List (List ℕ)) → HaveJoined texts more [] → more ≡ texts
 joined_none texts more h = by h.extra h.more_are h.among
   where
@@ -65,7 +66,7 @@ text_alone : (texts : List (List ℕ)) (n : ℕ) (text : List ℕ) → slice_get
 unfolding texts_at
 text_alone texts n text at = ap (λ t. t ∷ []) (get_or_from_slice_get texts n text [] at)
 
--- before the first name nothing was walked
+-- before the walk over a record's names has begun, nothing is kept
 pub walked_none : (texts : List (List ℕ)) (numbers : List ℕ) (brought : ℕ) → AreWalked texts numbers brought texts numbers brought []
 walked_none texts numbers brought = record {
   added = [];
@@ -79,7 +80,7 @@ walked_none texts numbers brought = record {
   cut = λ lt. refl;
 }
 
--- a name that is only tested changes nothing, as too many names came before
+-- if too many texts were new before, a name is only tested, and nothing is kept
 pub walked_past : (texts : List (List ℕ)) (numbers : List ℕ) (brought : ℕ) (text : List ℕ) → MOST_NAMES < brought → AreWalked texts numbers brought texts numbers brought (text ∷ [])
 walked_past texts numbers brought text over = record {
   added = [];
@@ -93,7 +94,7 @@ walked_past texts numbers brought text over = record {
   cut = λ lt. refl;
 }
 
--- a name that is kept adds its number, and its text if this is new
+-- a name that is kept adds the number of its text, and the text itself if it is new
 pub walked_name : (texts : List (List ℕ)) (numbers : List ℕ) (brought : ℕ) (more : List (List ℕ)) (now n : ℕ) (text : List ℕ) → brought ≤ MOST_NAMES
     → slice_get more n ≡ Some text → IsJoined texts more text → now + length texts ≡ brought + length more
     → AreWalked texts numbers brought more (numbers ++ n ∷ []) now (text ∷ [])
@@ -109,7 +110,7 @@ walked_name texts numbers brought more now n text few at joined count = record {
   cut = λ lt. absurd (omega (arith, lt, few));
 }
 
--- after some names and one more, all of them were walked
+-- a walk over some names and then over one more name is a walk over all of these names
 pub walked_more : (texts : List (List ℕ)) (numbers : List ℕ) (brought : ℕ) (more : List (List ℕ)) (all : List ℕ) (now : ℕ) (most : List (List ℕ)) (whole : List ℕ) (last : ℕ) (names : List (List ℕ)) (text : List ℕ)
     → AreWalked texts numbers brought more all now names → AreWalked more all now most whole last (text ∷ [])
     → AreWalked texts numbers brought most whole last (names ++ text ∷ [])
@@ -173,7 +174,7 @@ parts_kept names more (row ∷ rows) h =
     let tail = parts_kept names more rows (All-tail (λ (row : KeptRow). (row.start ≤ row.end) × (row.end ≤ length names)) row rows h) in
     λ i. record { place = row.place; kind = row.kind; owner = row.owner; listed = part i } ∷ tail i
 
--- the kept rows after one more row have the parts that its names and its owner give it
+-- one more kept row has the part of the sequence that its owner and its names were given
 pub parts_push : (names added : List ℕ) (rows : List KeptRow) (place : ℕ) (kind : ListKind) (owner start end : ℕ) → ArePartsOf names rows → start ≡ length names → end ≡ length (names ++ added)
     → map (entry_at (names ++ added)) (rows ++ record { place = place; kind = kind; owner = owner; start = start; end = end } ∷ [])
     ≡ map (entry_at names) rows ++ record { place = place; kind = kind; owner = owner; listed = added } ∷ []
@@ -193,7 +194,8 @@ text_kept known more n text s at =
     let size = starts_length known more s in
     slice_get-get_or more n [] (omega (arith, there, size)) ∙ ap Some (number_text known more n s there ∙ get_or_from_slice_get known n text [] at)
 
--- after one more entry the kept rows tell it, and all entries before
+-- after one more row was kept, the kept rows stand for this row's entry and for all entries before
+-- it
 pub entry_added : (texts known more : List (List ℕ)) (names all : List ℕ) (rows : List KeptRow) (brought count now : ℕ) (entry : ListEntry) (owner start end : ℕ)
     → ArePartsOf names rows → IsJoined texts known entry.owner → slice_get known owner ≡ Some entry.owner → count + length texts ≡ brought + length known
     → AreWalked known names count more all now entry.listed → start ≡ length names → end ≡ length all

@@ -16,7 +16,7 @@ position_from-suc p n (x ∷ xs) = by (p x) (position_from-suc p (n + 1) xs)
     by true e = ap Some (add-one n)
     by false e = e
 
--- the number of a name in a list with one name in front of others
+-- the number of a name in a list of a first name and others
 pub number_in-cons : (x : List ℕ) (xs : List (List ℕ)) (name : List ℕ)
     → number_in (x ∷ xs) name ≡ (if bytes_eq name x then Some 0 else option_map suc (number_in xs name))
 unfolding number_in
@@ -53,7 +53,7 @@ at_number f (x ∷ xs) name i d e =
     (λ b z. rw (← z, same_bytes name x b) refl)
     (λ j b at s. rw (← s) (at_number f xs name j d at))
 
--- whether no name stands twice
+-- whether no name stands in the list twice
 unfoldable pub distinct : List (List ℕ) → Bool
 distinct [] = true
 distinct (x ∷ xs) = not (list_any (bytes_eq x) xs) && distinct xs

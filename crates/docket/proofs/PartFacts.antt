@@ -31,7 +31,7 @@ use Rattle.docket.proofs.CountFacts.{listed_asked}
 use Rattle.docket.proofs.SoundFacts.{both_none}
 use Rattle.docket.proofs.ReadRowsInvariant.{Goes}
 
--- if these rows have no fault and the next row has none, the rows with the next row have none
+-- if some rows have no fault and the next row has none, all of these rows together have none
 push_from : (f : List Fields → Fields → Option RecordsFault) (kept rows : List Fields) (row : Fields)
     → first_from f kept rows ≡ None → f (kept ++ rows) row ≡ None → first_from f kept (rows ++ row ∷ []) ≡ None
 unfolding first_from
@@ -54,7 +54,8 @@ fault_from f (Some all) kept rows (Some l) after row e s g none (inr here) =
     let whole : all ≡ rows ++ row ∷ g.0 = s.2 ∙ ap (λ (r : List Fields). rows ++ r) (sym same ∙ g.2) in
     inr (rw whole (found_from f kept rows g.0 row e none here))
 
--- below the limit on records: the part first, then the first pass
+-- within the limit on records: first the fault of a record of another part, then the first pass's
+-- fault
 pub part_few : (part : Option Part) (lim : Limits) (before : List Fields) (row : Fields) → length before < most_records lim
     → part_fault part lim before row ≡ option_or (kind_fault part (next_place before) row) (first_pass_fault lim before row)
 unfolding part_fault
@@ -77,7 +78,7 @@ part_many part lim before row many = by (nat_le (most_records lim) (length befor
     by true e = rw many refl
     by false e = let less : length before < most_records lim = search (rules, e) in absurd (omega (arith, less, many))
 
--- a record that is right in its file has no fault in the first pass
+-- a record without a fault in its file has no fault in the first pass
 part_sound : (part : Option Part) (lim : Limits) (before : List Fields) (row : Fields) → part_fault part lim before row ≡ None → first_pass_fault lim before row ≡ None
 unfolding part_fault
 part_sound part lim before row none = by (nat_le (most_records lim) (length before)) none
@@ -112,7 +113,7 @@ none_from : (f : List Fields → Fields → Option RecordsFault) (kept : List Fi
 unfolding first_from
 none_from f kept = refl
 
--- before the first record of a file is read, the reading goes on with all of its records left
+-- before the first record of a file is read, all records of the file are left
 pub goes_start : (part : Option Part) (lim : Limits) (all : Option (List Fields)) (kept : List Fields) (reading : Reading) → IsPassed reading kept → Goes part lim all all kept reading
 goes_start part lim all kept reading p = record {
   rows = [];
@@ -121,7 +122,7 @@ goes_start part lim all kept reading p = record {
   split = split_start all;
 }
 
--- if the next record of a file was read without a fault, the file's reading goes on with one more record
+-- if the next record of a file was read without a fault, one more record of the file was read
 pub goes_more : (part : Option Part) (lim : Limits) (all left after : Option (List Fields)) (kept : List Fields) (row : Fields) (old new : Reading)
     → (o : Goes part lim all left kept old) → GivesRow left after true row → IsReading new ((kept ++ o.rows) ++ row ∷ []) → part_fault part lim (kept ++ o.rows) row ≡ None
     → Goes part lim all after kept new
@@ -132,7 +133,7 @@ goes_more part lim all left after kept row old new o gives is none = record {
   split = split_more all o.rows left after row o.split gives;
 }
 
--- at the end of a file's records none of them had a fault
+-- if a file was read to its end, none of its records has a fault
 pub goes_end : (part : Option Part) (lim : Limits) (all left after : Option (List Fields)) (kept : List Fields) (row : Fields) (old reading : Reading)
     → IsPassed old kept → old.declared.builder.limits ≡ lim → reading.declared.builder.limits ≡ lim → reading.records ≤ most_records lim
     → Goes part lim all left kept reading → GivesRow left after false row → GoesOn part kept all reading
@@ -153,14 +154,14 @@ goes_end part lim all left after kept row old reading p was same few o gives =
 pub passed_empty : (reading : Reading) → IsReading reading [] → IsPassed reading []
 passed_empty reading is = record { reading_is = is; sound = first_from-none (first_pass_fault reading.declared.builder.limits); few = omega arith }
 
--- after one more file without a fault, the records of the files so far are those before and the file's
+-- one more file without a fault adds its records to the records read
 pub passed_on : (part : Option Part) (kept rows : List Fields) (reading : Reading) → GoesOn part kept (Some rows) reading → IsPassed reading (kept ++ rows)
 passed_on part kept rows reading g = rw g.all_are g.passed
 
 pub own_on : (part : Option Part) (lim : Limits) (kept rows : List Fields) (reading : Reading) → reading.declared.builder.limits ≡ lim → GoesOn part kept (Some rows) reading → first_from (part_fault part lim) kept rows ≡ None
 own_on part lim kept rows reading same g = rw (← same, g.all_are) g.own
 
--- after one stream whose records may be of any kind, its records were read without a fault
+-- if a stream whose records may be of any kind was read to its end, its records have no fault
 pub one_passed : (all : Option (List Fields)) (old new : Reading) → IsReading old [] → ((kept : List Fields) → IsPassed old kept → GoesOn None kept all new) → HasPassed all new
 one_passed all old new is on = let g = on [] (passed_empty old is) in record { rows = g.rows; all_are = g.all_are; passed = g.passed }
 
@@ -194,8 +195,8 @@ part_stopped part reading rows row e few is own (inl memory) = inl (ap Docket me
 part_stopped part reading rows row e few is own (inr here) =
     inr (part_few part reading.declared.builder.limits rows row (few_rows reading rows few is) ∙ rw (own, here) refl)
 
--- a record of the file's part that the first pass accepts has only the test of the number of listed names
--- left
+-- for a record of the file's part that the first pass accepts, only the number of listed names remains to
+-- be tested
 pub part_passed : (part : Option Part) (reading new : Reading) (rows : List Fields) (row : Fields) (place : ℕ) → reading.records < most_records reading.declared.builder.limits → IsReading reading rows
     → place ≡ reading.records + 1 → is_elsewhere part row ≡ false → reading_fault reading.declared.builder.limits rows row ≡ None
     → new.declared.builder.limits ≡ reading.declared.builder.limits → IsReading new (rows ++ row ∷ [])
@@ -223,7 +224,7 @@ one_refused all lim old (Err e) is on = one_told all lim old e is on
 pub within : (reading : Reading) (rows : List Fields) → IsPassed reading rows → reading.records ≤ most_records reading.declared.builder.limits
 within reading rows p = let count = p.reading_is.records in let few = p.few in omega (arith, count, few)
 
--- the fault of a file's record is told with the file and with its number in the file
+-- the fault of a record is reported with the record's file and its number in this file
 pub file_told : (file : Part) (lim : Limits) (kept rows : List Fields) (old : Reading) (before : ℕ) (e : RecordsFault) → IsPassed old kept → before ≡ old.records
     → IsSourceFault e ⊎ Explains (Some rows) (first_from (part_fault (Some file) lim) kept) e → Tells (file_fault file lim kept rows) (there file before e)
 file_told file lim kept rows old before e p is (inl read) = inl (inr (read.0, rw read.1 refl))
@@ -250,7 +251,7 @@ files_none a b c x y z = rw (x, y, z) refl
 pub all_passed : (rows : List Fields) (reading : Reading) → IsPassed reading rows → HasPassed (Some rows) reading
 all_passed rows reading p = record { rows = rows; all_are = refl; passed = p }
 
--- a fault that a later pass finds is told with the file in which its record stands
+-- a fault that a later pass finds is reported with the file in which its record stands
 pub later_told : (lim : Limits) (d s j : List ℕ) (ends : Ends) (r : Reading) (f : DocketFault) → r.declared.builder.limits ≡ lim → files_fault lim d s j ≡ None → AreEnds d s ends
     → (h : HasPassed (Some (rows_of_all d s j)) r) → ((rows : List Fields) → IsPassed r rows → Refuses (later_fault r.declared.builder.limits rows) f)
     → Tells (fault_of_files lim d s j) (located ends.docket ends.sheet f)
@@ -275,12 +276,12 @@ later_read lim d s j r c same own h none is =
       docket_is = rw h.all_are (is h.rows h.passed);
     }
 
--- the lists that were kept are those of the files' records
+-- the lists that were kept are the lists in the records of the files
 pub later_lists : (d s j : List ℕ) (keeps : Bool) (r : Reading) (w : Option KeptLists) → (h : HasPassed (Some (rows_of_all d s j)) r)
     → ((rows : List Fields) → IsPassed r rows → w ≡ lists_if keeps rows) → w ≡ lists_if keeps (rows_of_all d s j)
 later_lists d s j keeps r w h lists = rw h.all_are (lists h.rows h.passed)
 
--- the lists that were kept are written in the files of the docket, with their names
+-- the docket in the files was read together with the lists that were kept
 pub lists_in_files : (lim : Limits) (d s j : List ℕ) (c : Contents) (kept : Option KeptLists) (w : Written) (given : List (Option (List ℕ))) → kept ≡ Some (w, given) → IsInFiles lim d s j c
     → kept ≡ lists_if true (rows_of_all d s j) → IsInFilesWithLists lim d s j c w
 lists_in_files lim d s j c kept w given is h lists = record {

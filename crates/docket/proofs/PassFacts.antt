@@ -16,12 +16,12 @@ use Rattle.docket.specs.declared.fault.DocketFault.{DocketFault}
 use Rattle.docket.specs.declared.records_fault.RecordsFault.{RecordsFault}
 use Rattle.docket.specs.declared.fault.DocketFault.TheVariants.{TooManyRecords}
 
--- three tests in a row give the same first fault, whichever two are taken together
+-- the first fault of three tests is the same, whichever two neighbours are joined first
 pub option_or-assoc : {F : Type 0} (a b c : Option F) → option_or a (option_or b c) ≡ option_or (option_or a b) c
 option_or-assoc None b c = refl
 option_or-assoc (Some f) b c = refl
 
--- the first fault in two lists of rows, one after the other, is the first list's or else the second's
+-- the first fault in two joined lists of rows is the first list's, or else the second's
 pub first_from-append : {F : Type 0} (f : List Fields → Fields → Option F) (before xs ys : List Fields)
     → first_from f before (xs ++ ys) ≡ option_or (first_from f before xs) (first_from f (before ++ xs) ys)
 unfolding first_from
@@ -43,15 +43,15 @@ pub first_from-found : {F : Type 0} (f : List Fields → Fields → Option F) (k
 unfolding first_from
 first_from-found f kept rest row e none here = rw (first_from-append f [] kept (row ∷ rest), none, here) refl
 
--- a fault of the reader or of memory needs no reason in the docket's rows
+-- a fault of the reader or out of memory is right whatever the docket's rows are
 pub outside_fault : (all : Option (List Fields)) (f : List Fields → Option RecordsFault) (place : ℕ) (e : RecordsFault)
     → IsOutside place e → IsSourceFault e ⊎ Explains all f e
 outside_fault None f place e (inl memory) = inr ([], inl memory)
 outside_fault (Some rows) f place e (inl memory) = inr (inl memory)
 outside_fault all f place e (inr read) = inl (place, read)
 
--- below the limit on records, the first pass's fault of a row is its own or else the one that shows from
--- the rows before
+-- within the limit on records, the first pass finds in a row the fault that the row has by itself, or
+-- else the fault that it has because of earlier rows
 pub reading_fault-few : (lim : Limits) (before : List Fields) (row : Fields) → length before < most_records lim
     → reading_fault lim before row ≡ option_or (row_fault (next_place before) (workers_in before) row) (option_or (repeat_fault before row) (limit_fault lim before row))
 unfolding reading_fault

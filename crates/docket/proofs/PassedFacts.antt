@@ -28,7 +28,7 @@ use Rattle.docket.proofs.RankingFacts.{lists_of-none, length-quotas_of}
 use Rattle.docket.proofs.WidestFacts.{sound_widest, few_widest}
 use Rattle.docket.proofs.WithdrawalFacts.{withdrawn_of-none}
 
--- what every later pass relies on: the numbers of members are those of the names that the records
+-- what every later pass relies on: the members have the numbers of the names that the records
 -- declare
 pub known : (r : Reading) (rows : List Fields) → IsDistinct bytes_eq r.texts → IsPassed r rows → AreKnown r.texts r.declared.programmes r.declared.residents rows
 known r rows distinct p = record {
@@ -104,6 +104,6 @@ sheet_there rows sheet there is = rw (there, is) refl
 pub sheet_away : (rows : List Fields) → has_sheet rows ≡ false → None ≡ sheet_of rows
 sheet_away rows away = rw away refl
 
--- the records that were read are some, whether all bytes are known or not
+-- there is some list of the records that were read, even if the bytes are not known
 pub some_passed : (all : Option (List Fields)) (r : Reading) → HasPassed all r → HasPassed None r
 some_passed all r h = record { rows = h.rows; all_are = tt; passed = h.passed }

@@ -95,7 +95,8 @@ ranked_other b rows k lt p r w h =
           ∙ ap (withdrawn_of (codes "R") (residents_of rows)) (sym next);
     }
 
--- the builder's fault for the list in a P row is that a resident stands on it twice, or none
+-- the only fault that the builder can find in the list of a P row is that a resident stands on it
+-- twice
 pub programme_list_fault : (b : Draft) (rows : List Fields) (k i : ℕ) (items : List ℕ) → first_from (reading_fault widest) [] rows ≡ None → length rows ≤ MAX_RECORDS → k < length rows
     → kind_of (row_at rows k) ≡ PROGRAMME_LIST → number_in (programmes_of rows) (field (row_at rows k) 1) ≡ Some i → IsRanked b rows (take k rows)
     → items ≡ listed_in (residents_of rows) (row_at rows k) → list_all (is_declared (residents_of rows)) (drop 2 (row_at rows k)) ≡ true
@@ -114,12 +115,12 @@ resident_list_fault b rows k i items sound few lt kind at h is known =
     rw (is, h.resident_lists, h.quotas, length-quotas_of rows)
     (list_fault-row RESIDENT_LIST (residents_of rows) (programmes_of rows) (take k rows) (row_at rows k) i at free known)
 
--- two drafts with the same parts are equal
 pub same_draft : {b c : Draft} → b.limits ≡ c.limits → b.quotas ≡ c.quotas → b.programme_lists ≡ c.programme_lists → b.resident_lists ≡ c.resident_lists
     → b.programmes_withdrawn ≡ c.programmes_withdrawn → b.residents_withdrawn ≡ c.residents_withdrawn → b ≡ c
 same_draft l q p r pg rg = λ i. record { limits = l i; quotas = q i; programme_lists = p i; resident_lists = r i; programmes_withdrawn = pg i; residents_withdrawn = rg i }
 
--- after all rows the builder has the quotas, lists and withdrawals of the rows, and its own limits
+-- after all rows the builder has the quotas, lists and withdrawals of the rows, and the limits that
+-- it had
 ranked_all : (b : Draft) (rows : List Fields) → IsRanked b rows rows → b ≡ record (draft_of rows) { limits = b.limits }
 ranked_all b rows h = same_draft refl h.quotas h.programme_lists h.resident_lists h.programmes_withdrawn h.residents_withdrawn
 

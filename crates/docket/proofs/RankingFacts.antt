@@ -31,7 +31,7 @@ pub off : (b : Bool) → not b ≡ true → b ≡ false
 off true h = cc h
 off false h = refl
 
--- if no row has a fault in a pass, row k has none
+-- if a pass finds no fault in any row, it finds none in row k
 pub clean_at : (f : List Fields → Fields → Option DocketFault) (rows : List Fields) (k : ℕ) → first_from f [] rows ≡ None → k < length rows
     → f (take k rows) (row_at rows k) ≡ None
 unfolding first_from
@@ -47,8 +47,7 @@ pub length-quotas_of : (rows : List Fields) → length (quotas_of rows) ≡ leng
 unfolding quotas_of programmes_of
 length-quotas_of rows = length-map (rows_of_kind QUOTA rows) (λ (r : Fields). unwrap_or (number_of (field r 2)) 0) ∙ sym (length-map (rows_of_kind QUOTA rows) (λ (r : Fields). field r 1))
 
--- a row that the first pass accepted has no fault by itself, nor any that shows from the rows
--- before it
+-- a row that the first pass accepted has no fault by itself and none because of earlier rows
 pub sound_row : (rows : List Fields) (k : ℕ) → first_from (reading_fault widest) [] rows ≡ None → length rows ≤ MAX_RECORDS → k < length rows
     → (row_fault (k + 1) (workers_in (take k rows)) (row_at rows k) ≡ None) × (repeat_fault (take k rows) (row_at rows k) ≡ None)
 sound_row rows k none few lt =
@@ -59,7 +58,7 @@ sound_row rows k none few lt =
     let own = both_none (row_fault (next_place (take k rows)) (workers_in (take k rows)) (row_at rows k)) (option_or (repeat_fault (take k rows) (row_at rows k)) (limit_fault widest (take k rows) (row_at rows k))) all in
     (ap (λ (n : ℕ). row_fault (n + 1) (workers_in (take k rows)) (row_at rows k)) (sym here) ∙ own.0, (both_none (repeat_fault (take k rows) (row_at rows k)) (limit_fault widest (take k rows) (row_at rows k)) own.1).0)
 
--- no earlier Q row has the name of a Q row that isn't refused as a repetition
+-- if a Q row isn't refused as a repetition, no earlier Q row has its name
 pub quota_free : (before : List Fields) (row : Fields) → repeat_fault before row ≡ None → kind_of row ≡ QUOTA → list_any (is_row_of QUOTA (field row 1)) before ≡ false
 unfolding repeat_fault
 quota_free before row none kind =
@@ -140,12 +139,12 @@ find_none p (r ∷ rows) e = by (p r) e (find_none p rows)
     by true e more = absurd (cc e)
     by false e more = more e
 
--- the first row that passes a test after one more row is the first one before, or else this row if
--- it passes
+-- the first row that passes a test, after one more row: the first earlier row that passes, or else
+-- this row if it passes
 pub find-push : (p : Fields → Bool) (rows : List Fields) (row : Fields) → find p (rows ++ row ∷ []) ≡ option_or (find p rows) (if p row then Some row else None)
 find-push p rows row = find-append p rows (row ∷ [])
 
--- after the row with one member's list, this member has the list and the others have theirs
+-- the row with a member's list gives this member the list, and changes no other member's list
 pub lists_of-owner : (kind : ℕ) (owners others : List (List ℕ)) (before : List Fields) (row : Fields) (i : ℕ) → distinct owners ≡ true
     → number_in owners (field row 1) ≡ Some i → is_kind kind row ≡ true → list_any (is_row_of kind (field row 1)) before ≡ false
     → lists_of kind owners others (before ++ row ∷ []) ≡ slice_set (lists_of kind owners others before) i (Some (listed_in others row))
@@ -217,7 +216,7 @@ unfolding listed_in
 list_fault-row kind owners others before row i at free known =
     rw (owner_unlisted kind owners others before (field row 1) i at free, items_below others (drop 2 row) known) refl
 
--- what the builder refuses in a list is told as a fault at the list's record
+-- the builder's fault for a list becomes a fault of the docket at the list's record
 pub listed_answer : (T : Type 0) (n : ℕ) (twice : Bool) (r : Result T ModelFault) (f : Option ModelFault) → f ≡ (if not twice then Some model.ListedTwice else None)
     → AnswersOrWantsMemory f r → (fault : ModelFault) → r ≡ Err fault → Refuses (unless twice (Model n model.ListedTwice)) (at_record n fault)
 listed_answer T n twice r f is h fault e = by twice f is (rw e at h)
@@ -236,7 +235,7 @@ listed_fine n false f is none = absurd (cc (is, none))
 pub place_at : (rows : List Fields) (k : ℕ) → k < length rows → k + 1 ≡ next_place (take k rows)
 place_at rows k lt = let size = length-take k rows in omega arith
 
--- if a P row's owner is declared, the second pass finds in it what is wrong with its list
+-- if the owner of a P row is declared, the second pass finds in the row only a fault of its list
 pub ranking_fault-owned : (rows before : List Fields) (row : Fields) (n i : ℕ) → kind_of row ≡ PROGRAMME_LIST → number_in (programmes_of rows) (field row 1) ≡ Some i
     → n ≡ next_place before → ranking_fault rows before row ≡ listing_fault n (residents_of rows) row
 unfolding ranking_fault
@@ -247,7 +246,7 @@ pub ranking_fault-unowned : (rows before : List Fields) (row : Fields) (n : ℕ)
 unfolding ranking_fault
 ranking_fault-unowned rows before row n kind at place = rw (kind, at, place) refl
 
--- in an R row the second pass finds what is wrong with its list
+-- in an R row the second pass finds only a fault of its list
 pub ranking_fault-resident : (rows before : List Fields) (row : Fields) (n : ℕ) → kind_of row ≡ RESIDENT_LIST
     → n ≡ next_place before → ranking_fault rows before row ≡ listing_fault n (programmes_of rows) row
 unfolding ranking_fault

@@ -12,8 +12,8 @@ use Rattle.docket.specs.declared.part.Part.{Part}
 use Rattle.docket.specs.declared.reading.Reading.{Reading}
 use Rattle.match_model.specs.declared.limits.Limits.{Limits}
 
--- of the file's records, those that were read, after the records of earlier files, have no fault,
--- and some are left
+-- after the records of earlier files, some records of this file were read without a fault, and the
+-- others are left
 pub record Goes (part : Option Part) (lim : Limits) (all left : Option (List Fields)) (kept : List Fields) (reading : Reading) : Type 0 where
   pub rows : List Fields
   pub reading_is : IsReading reading (kept ++ rows)

@@ -26,14 +26,14 @@ use Rattle.docket.proofs.SoundFacts.{both_none, unless_none}
 abbrev names_in : (Fields → Bool) → List Fields → List (List ℕ)
 names_in p rows = map (λ (r : Fields). field r 1) (filter p rows)
 
--- a pass over the rows of one kind that tests the name in field 1: the name has to be known, and in no earlier row of
--- this kind
+-- the pass tests the name in field 1 of each row of one kind: the name has to be known, and no earlier row of this
+-- kind may have it
 record Asks (p : Fields → Bool) (marks : List ℕ → Fields → Bool) (known : List (List ℕ)) (f : List Fields → Fields → Option DocketFault) : Type 0 where
   own : (name : List ℕ) (row : Fields) → p row ≡ true → bytes_eq name (field row 1) ≡ true → marks name row ≡ true
   there : (before : List Fields) (row : Fields) → p row ≡ true → f before row ≡ None → is_among known (field row 1) ≡ true
   first : (before : List Fields) (row : Fields) → p row ≡ true → f before row ≡ None → list_any (marks (field row 1)) before ≡ false
 
--- if rows of one kind pass this test, their names are known and all different
+-- if all rows of the kind pass this test, their names are known and all different
 names_known : (p : Fields → Bool) (marks : List ℕ → Fields → Bool) (known : List (List ℕ)) (f : List Fields → Fields → Option DocketFault) → Asks p marks known f
     → (before rows : List Fields) → first_from f before rows ≡ None → list_all (is_among known) (names_in p rows) ≡ true
 unfolding first_from
@@ -87,7 +87,7 @@ names_differ p marks known f asks before (row ∷ rows) none =
     by true e none more = (names_apart p marks known f asks (field row 1) (before ++ row ∷ []) rows (seen e) none, more)
     by false e none more = more
 
--- rows of one kind that pass this test are at most as many as the known names
+-- if all rows of the kind pass this test, there are at most as many rows as known names
 few_rows : (p : Fields → Bool) (marks : List ℕ → Fields → Bool) (known : List (List ℕ)) (f : List Fields → Fields → Option DocketFault) → Asks p marks known f
     → (rows : List Fields) → first_from f [] rows ≡ None → count_by p rows ≤ length known
 few_rows p marks known f asks rows none =
@@ -97,7 +97,7 @@ few_rows p marks known f asks rows none =
     let count = length-filter p rows in
     omega (arith, few, all, names, count)
 
--- the kinds of the rows in which the walk over a sheet tests residents' names: M and U
+-- whether the row is an M or U row, in which the first walk over a sheet tests a resident's name
 abbrev is_mark_row : Fields → Bool
 is_mark_row row = is_kind MATCHED row || is_kind UNMATCHED row
 

@@ -30,8 +30,8 @@ use Rattle.docket.proofs.DeclarationFacts.{list_any-if, option_or-none}
 use Rattle.docket.proofs.NumberFacts.{distinct, at_number, map_at}
 use Rattle.docket.proofs.RankingFacts.{bytes_eq-swap, map-same, find_none, find-push}
 
--- for each name, whether some row passes its test, after one more row: as before, but true for the name whose
--- test this row passes
+-- for each name, whether some row passes its test: one more row changes this only for the name whose test
+-- it passes
 any_at : (p : List ℕ → Fields → Bool) (names : List (List ℕ)) (done : List Fields) (row : Fields) (name : List ℕ) (i : ℕ) → distinct names ≡ true
     → number_in names name ≡ Some i → p name row ≡ true → ((x : List ℕ) → bytes_eq name x ≡ false → p x row ≡ false)
     → map (λ n. list_any (p n) (done ++ row ∷ [])) names ≡ slice_set (map (λ n. list_any (p n) done) names) i true
@@ -47,7 +47,8 @@ any_same : (p : List ℕ → Fields → Bool) (names : List (List ℕ)) (done : 
 any_same p names done row others =
     map-same (λ (n : List ℕ). list_any (p n) (done ++ row ∷ [])) (λ (n : List ℕ). list_any (p n) done) names (λ x. rw (list_any-if (p x) done row, others x) refl)
 
--- the number of rows that pass a test is one more after a row that passes it, and otherwise as before
+-- one more row adds one to the number of rows that pass a test if it passes the test, and else
+-- nothing
 count_by-push : (p : Fields → Bool) (done : List Fields) (row : Fields) → count_by p (done ++ row ∷ []) ≡ count_by p done + (if p row then 1 else 0)
 count_by-push p done row = sum_by-append (λ (r : Fields). if p r then 1 else 0) done (row ∷ []) ∙ ap (λ n. count_by p done + n) (zero-add (if p row then 1 else 0))
 
@@ -70,8 +71,7 @@ count_same p names done row others =
 pub count_few : (p : Fields → Bool) (done : List Fields) → count_by p done ≤ length done
 count_few p done = count_by-le-length p done
 
--- the programme of each resident, after one more M row: the row's resident has the row's programme, and the
--- others have theirs
+-- one more M row gives its resident its programme, and changes no other resident's programme
 placed_at : (programmes names : List (List ℕ)) (done : List Fields) (row : Fields) (i p : ℕ) → distinct names ≡ true
     → number_in names (field row 1) ≡ Some i → kind_of row ≡ MATCHED → number_in programmes (field row 2) ≡ Some p → list_any (is_row_of MATCHED (field row 1)) done ≡ false
     → map (placed_in programmes (done ++ row ∷ [])) names ≡ slice_set (map (placed_in programmes done) names) i (Some p)
@@ -124,7 +124,7 @@ pub mark_fault-other : (rows before : List Fields) (row : Fields) → is_kind MA
 unfolding mark_fault
 mark_fault-other rows before row m u f = rw (m, u, f) refl
 
--- a member's second row in the sheet is refused, and the first isn't
+-- a row is refused exactly if the sheet has an earlier row of the same member
 pub second_row : (fault : Option DocketFault) (seen flag : Bool) (e : DocketFault) → fault ≡ unless (not seen) e → flag ≡ seen → flag ≡ true → Refuses fault e
 second_row fault seen flag e is same held = inr (rw (is, ← same, held) refl)
 
@@ -144,13 +144,13 @@ counts_kept : (p : List ℕ → Fields → Bool) (names : List (List ℕ)) (done
     → map (λ n. count_by (p n) done) names ≡ map (λ n. count_by (p n) (done ++ row ∷ [])) names
 counts_kept p names done row others = sym (count_same p names done row others)
 
--- the flags after a row of one name: the flag of this name is set, and the others are as before
+-- a row with one name sets the flag of this name and changes no other flag
 flags_more : (p : List ℕ → Fields → Bool) (names : List (List ℕ)) (done : List Fields) (row : Fields) (i : ℕ) (name : List ℕ) (flags : List Bool)
     → distinct names ≡ true → number_in names name ≡ Some i → p name row ≡ true → ((x : List ℕ) → bytes_eq name x ≡ false → p x row ≡ false)
     → flags ≡ map (λ n. list_any (p n) done) names → slice_set flags i true ≡ map (λ n. list_any (p n) (done ++ row ∷ [])) names
 flags_more p names done row i name flags d at here others h = rw h (sym (any_at p names done row name i d at here others))
 
--- the marks after an M row have its resident's programme and flag, and are otherwise as before
+-- an M row sets the programme and the flag of its resident in the marks, and changes no other mark
 pub marks_matched : (m e : Marks) (rows done : List Fields) (row : Fields) (i p : ℕ) → distinct (programmes_of rows) ≡ true → distinct (residents_of rows) ≡ true
     → kind_of row ≡ MATCHED → number_in (residents_of rows) (field row 1) ≡ Some i → number_in (programmes_of rows) (field row 2) ≡ Some p
     → list_any (is_mark_of (field row 1)) done ≡ false → IsMarked m rows done
@@ -198,7 +198,7 @@ marks_other m rows done row im iu ifl h = record {
   counts = h.counts ∙ counts_kept is_matched_with (programmes_of rows) done row (λ x. rw im refl);
 }
 
--- a list that has the same value for every name is this value, as often as there are names
+-- a list that has the same value for every name has this value as often as there are names
 pub map_const : {B : Type 0} (c : B) (names : List (List ℕ)) → replicate (length names) c ≡ map (λ (n : List ℕ). c) names
 map_const c [] = refl
 map_const c (n ∷ names) = ap (λ l. c ∷ l) (map_const c names)
@@ -214,8 +214,8 @@ unfolding missing_fault
 missing_is m rows n h place =
     rw (h.marked, h.filled, list_all-map (λ name. list_any (is_mark_of name) rows) (residents_of rows), list_all-map (λ name. list_any (is_row_of FILLED name) rows) (programmes_of rows), place) refl
 
--- the test of an F row finds a wrong number exactly if its numbers aren't the programme's count and quota by
--- the marks
+-- the test of an F row finds a wrong number exactly if the row's numbers aren't the programme's count in the
+-- marks and the programme's quota
 pub filled_is : (rows before : List Fields) (row : Fields) (n i f c q quota : ℕ) → kind_of row ≡ FILLED → number_in (programmes_of rows) (field row 1) ≡ Some i
     → f ≡ unwrap_or (number_of (field row 2)) 0 → c ≡ count_by (is_matched_with (field row 1)) rows → q ≡ unwrap_or (number_of (field row 3)) 0
     → quota ≡ slice_index_or (quotas_of rows) i 0 → n ≡ next_place before → filled_fault rows before row ≡ unless ((f == c) && (q == quota)) (BadSheet n)
@@ -226,7 +226,7 @@ pub filled_other : (rows before : List Fields) (row : Fields) → is_kind FILLED
 unfolding filled_fault
 filled_other rows before row e = rw e refl
 
--- if no row has a fault in a pass, no row has a fault after the rows before it
+-- if a pass finds no fault in any row, it finds none in the row after these rows
 pub clean_here : (f : List Fields → Fields → Option DocketFault) (done rest : List Fields) (row : Fields) → first_from f [] (done ++ row ∷ rest) ≡ None → f done row ≡ None
 unfolding first_from
 clean_here f done rest row none =
@@ -260,12 +260,13 @@ pub sheet_all : (m : Marks) (rows : List Fields) → IsMarked m rows rows → m.
 unfolding placement_of
 sheet_all m rows h = h.sheet
 
--- the member whose number a kept row has at field i is the one of the name in this field of the record
+-- a kept row's number for field i is the text number of the name in field i, and finds the member with
+-- this name
 pub member_is : (texts : Fields) (members : List ℕ) (names : List (List ℕ)) (n i : ℕ) (row : Fields) → IsDistinct bytes_eq texts → AreNames texts members names → IsText texts n i row
     → position (nat_eq n) members ≡ number_in names (field row i)
 member_is texts members names n i row d h at = member_named texts members n (field row i) d h.within at ∙ ap (λ l. number_in l (field row i)) h.texts_are
 
--- there are as many numbers as names
+-- there are as many members' text numbers as members' names
 pub members_are : (texts : Fields) (members : List ℕ) (names : List (List ℕ)) → AreNames texts members names → length members ≡ length names
 members_are texts members names h = names_length texts members names h
 
@@ -277,7 +278,7 @@ room texts programmes residents all before place mark row h =
     let few = h.known.few in
     omega (arith, size, few)
 
--- the fault of an M row that is kept is told by the numbers of its two names' texts
+-- the fault of a kept M row, found by the text numbers of its two names
 pub matched_fault_is : (texts : Fields) (programmes residents : List ℕ) (all before : List Fields) (place r p : ℕ) (row : Fields)
     → StandsAfter texts programmes residents all before place (Matched r p) row
     → mark_fault all before row ≡ option_or (unless (is_some (position (nat_eq r) residents)) (UnknownName place))
@@ -311,7 +312,7 @@ unfolding mark_fault
 filled_fault_is texts programmes residents all before place p f q row h =
     rw (member_is texts programmes (programmes_of all) p 1 row h.known.distinct h.known.programmes_are h.says.1, h.place_is, h.says.0) refl
 
--- the resident of a kept M row is the one whose number the row has
+-- the resident of an M row is the one whose text number the kept row has
 pub matched_resident : (texts : Fields) (programmes residents : List ℕ) (all before : List Fields) (place r p i : ℕ) (row : Fields)
     → StandsAfter texts programmes residents all before place (Matched r p) row → position (nat_eq r) residents ≡ Some i → number_in (residents_of all) (field row 1) ≡ Some i
 matched_resident texts programmes residents all before place r p i row h e = sym (member_is texts residents (residents_of all) r 1 row h.known.distinct h.known.residents_are h.says.1) ∙ e

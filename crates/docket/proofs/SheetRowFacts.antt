@@ -1,4 +1,4 @@
--- How the kept rows of a sheet grow with each record.
+-- The rows of a sheet that are kept, after each record.
 use Rattle.std.proofs.Common.{◌≡◌, ◌≤◌, ◌<◌, ◌+◌, ℕ, List, [], ◌∷◌, ◌++◌, Bool, true, false, length, get_or, arith, rules, sym, ◌∙◌, refl, ap, Some, inl, inr, append_assoc, append-nil, subst}
 use Rattle.std.specs.Prelude.{nat_le, if◌then◌else◌, None}
 use Rattle.docket_names.specs.Words.{is_number, number_of, digits_worth}
@@ -15,7 +15,7 @@ use Rattle.docket.specs.declared.store.sheet_rows.Mark.TheVariants.{Matched, Unm
 use Rattle.docket.specs.declared.store.sheet_rows.SheetRow.{SheetRow}
 use Rattle.docket.specs.declared.vocabulary.TheConstants.{MOST_NAMES}
 
--- a number of a text stands for the same text after texts were added
+-- the number of a text still stands for this text after other texts were added
 pub text_kept : (texts more : Fields) (n i : ℕ) (row : Fields) → StartsWith texts more → IsText texts n i row → IsText more n i row
 text_kept texts more n i row s h =
     let below = slice_get_within texts n (field row i) h in
@@ -35,7 +35,8 @@ kept_grown texts more n (k ∷ kept) (row ∷ rows) s (inl h) =
     inl (record { place = h.0.place; says = says_kept texts more k.mark row s h.0.says }, kept_grown texts more (n + 1) kept rows s h.1)
 kept_grown texts more n (k ∷ kept) (row ∷ rows) s (inr h) = inr (h.0, kept_grown texts more (n + 1) (k ∷ kept) rows s h.1)
 
--- what is kept of the records after one more, which is added if it belongs to a sheet
+-- the kept rows are right after one more record, whose row is added if the record belongs to a
+-- sheet
 kept_push : (texts : Fields) (n : ℕ) (kept : List SheetRow) (rows : List Fields) (k : SheetRow) (row : Fields) → AreKeptFrom texts n kept rows
     → k.place ≡ n + length rows → MarkSays texts k.mark row → AreKeptFrom texts n (kept ++ k ∷ []) (rows ++ row ∷ [])
 kept_push texts n [] [] k row h place says = inl (record { place = place ∙ omega arith; says = says }, refl)
@@ -64,12 +65,13 @@ sheet_grow texts more sheet rows s h = record {
   whole = h.whole;
 }
 
--- while not too many rows of a sheet are kept, the front of the records that they are kept of is
--- all records
+-- as long as no more rows of a sheet are kept than there can be members, the rows of all records
+-- are kept
 all_front : (texts : Fields) (sheet : List SheetRow) (rows : List Fields) (h : AreSheetRows texts sheet rows) → length sheet ≤ MOST_NAMES → rows ≡ h.front
 all_front texts sheet rows h le = h.rows_are ∙ ap (λ r. h.front ++ r) (h.whole le) ∙ append-nil h.front
 
--- a record of a sheet is added to those that are kept, while these aren't too many
+-- the kept rows are right if a record's row is added while no more rows are kept than there can be
+-- members
 pub sheet_more : (texts : Fields) (sheet : List SheetRow) (rows : List Fields) (k : SheetRow) (row : Fields) → length sheet ≤ MOST_NAMES → k.place ≡ next_place rows
     → MarkSays texts k.mark row → AreSheetRows texts sheet rows → AreSheetRows texts (sheet ++ k ∷ []) (rows ++ row ∷ [])
 sheet_more texts sheet rows k row le place says h =
@@ -83,7 +85,7 @@ sheet_more texts sheet rows k row le place says h =
       whole = λ le. refl;
     }
 
--- a record isn't kept any more once too many rows of a sheet are kept
+-- the kept rows are right if nothing is added once more rows are kept than there can be members
 pub sheet_cut : (texts : Fields) (sheet : List SheetRow) (rows : List Fields) (row : Fields) → MOST_NAMES < length sheet → AreSheetRows texts sheet rows
     → AreSheetRows texts sheet (rows ++ row ∷ [])
 sheet_cut texts sheet rows row many h = record {
@@ -111,7 +113,7 @@ sheet_other texts sheet rows row e h = by (nat_le (length sheet) MOST_NAMES) ref
           whole = λ le. refl;
         }
 
--- a text that stands for a number is a number
+-- a text that is read as a number has the form of a number
 pub is_number-some : (text : List ℕ) (n : ℕ) → number_of text ≡ Some n → is_number text ≡ true
 unfolding number_of
 is_number-some text n h = by (is_number text) refl h

@@ -1,4 +1,5 @@
--- A walk over the kept rows of a sheet goes over all records: those between two kept rows belong to no sheet.
+-- A walk over the kept rows of a sheet is as good as a walk over all records: the records between two kept
+-- rows belong to no sheet.
 use Rattle.std.proofs.Common.{◌≡◌, ◌≤◌, ◌<◌, ◌+◌, ℕ, List, [], ◌∷◌, ◌++◌, Bool, true, false, length, drop, get_or, sym, ◌∙◌, refl, ap, arith, None, inl, inr, count_by, append_assoc, append-nil, zero-add, subst, drop_of_length-le}
 use Rattle.std.specs.Prelude.{◌||◌, if◌then◌else◌, Option}
 use Rattle.std.proofs.lemmas.Bool.{or_parts}
@@ -24,7 +25,7 @@ use Rattle.docket.proofs.SoundFacts.{both_none}
 use Rattle.docket.proofs.SheetFewFacts.{few_marks}
 use Rattle.docket.proofs.SheetMarkFacts.{marks_other, mark_fault-other, filled_other}
 
--- the walk went over the records before, which have the property, and these kept rows are left
+-- the walk has gone over some records, which have the property P, and these kept rows are left
 pub record IsReached (texts : Fields) (front : List Fields) (left : List SheetRow) (P : List Fields → Type 0) : Type 0 where
   pub before : List Fields
   pub after : List Fields
@@ -32,7 +33,7 @@ pub record IsReached (texts : Fields) (front : List Fields) (left : List SheetRo
   pub left_are : AreKeptFrom texts (next_place before) left after
   pub here : P before
 
--- the record of the next kept row follows the records before, which have the property
+-- the record of the next kept row follows records that have the property P
 pub record IsNext (texts : Fields) (front : List Fields) (kept : SheetRow) (left : List SheetRow) (P : List Fields → Type 0) : Type 0 where
   pub before : List Fields
   pub row : Fields
@@ -89,14 +90,15 @@ walk_end texts front P step h = over h.before h.after h.front_are h.left_are h.h
     over before (row ∷ after) e h p =
         over (before ++ row ∷ []) after (e ∙ sym (append_assoc before (row ∷ []) after)) (kept_after texts before row [] after h.1) (step before row h.0 p)
 
--- a record of no sheet is of none of the three kinds
+-- a record that belongs to no sheet is neither an M nor a U nor an F row
 no_kinds : (row : Fields) → is_sheet_row row ≡ false → (is_kind MATCHED row ≡ false) × (is_kind UNMATCHED row ≡ false) × (is_kind FILLED row ≡ false)
 no_kinds row e =
     let last = or_parts (is_kind MATCHED row || is_kind UNMATCHED row) (is_kind FILLED row) e in
     let first = or_parts (is_kind MATCHED row) (is_kind UNMATCHED row) last.0 in
     (first.0, first.1, last.1)
 
--- what the first walk knows after the records that are done: their marks
+-- the marks are right for the records that the first walk has gone over, and these records have no
+-- fault
 abbrev pub IsMarkedSo : Marks → List Fields → List Fields → Type 0
 IsMarkedSo m all done = IsMarked m all done × (first_from (mark_fault all) [] done ≡ None)
 
@@ -122,13 +124,14 @@ stands texts programmes residents kept all h k left P n known = record {
   says = n.kept_is.says;
 }
 
--- a fault of the next kept row's record is the first fault of the pass, if the records before have none
+-- if the records before the next kept row's record have no fault, a fault of this record is the first
+-- fault of the pass
 pub walk_fault : (f : List Fields → Fields → Option DocketFault) (all before rest : List Fields) (row : Fields) (e : DocketFault) → all ≡ before ++ row ∷ rest
     → first_from f [] before ≡ None → Refuses (f before row) e → Refuses (first_from f [] all) e
 walk_fault f all before rest row e is none (inl memory) = inl memory
 walk_fault f all before rest row e is none (inr here) = inr (ap (first_from f []) is ∙ first_from-found f before rest row e none here)
 
--- a row is kept only of a record of the sheet
+-- a record for which a row is kept belongs to the sheet
 says_sheet : (texts : Fields) (mark : Mark) (row : Fields) → MarkSays texts mark row → is_sheet_row row ≡ true
 says_sheet texts (Matched r p) row h = rw h.0 refl
 says_sheet texts (Unmatched r) row h = rw h.0 refl
@@ -147,7 +150,7 @@ kept_count texts n (k ∷ kept) (row ∷ rows) (inr h) =
     let more = kept_count texts (n + 1) (k ∷ kept) rows h.1 in
     rw (count_cons is_sheet_row row rows, h.0) (omega (arith, more))
 
--- if the kept rows' records have no fault, they are of all records
+-- if the records of the kept rows have no fault, the rows of all records are kept
 pub front_all : (texts : Fields) (programmes residents : List ℕ) (kept : List SheetRow) (all : List Fields) (h : AreSheetRows texts kept all) → AreKnown texts programmes residents all
     → first_from (mark_fault all) [] h.front ≡ None → h.front ≡ all
 front_all texts programmes residents kept all h known none =
@@ -155,7 +158,7 @@ front_all texts programmes residents kept all h known none =
     let count = kept_count texts 1 kept h.front h.kept_are in
     sym (h.rows_are ∙ ap (λ r. h.front ++ r) (h.whole (omega (arith, few, count))) ∙ append-nil h.front)
 
--- the front of records without a fault has no fault
+-- if all records have no fault, the front of them has none
 pub front_none : (texts : Fields) (kept : List SheetRow) (all : List Fields) (h : AreSheetRows texts kept all) → first_from (mark_fault all) [] all ≡ None → first_from (mark_fault all) [] h.front ≡ None
 front_none texts kept all h none =
     let whole = ap (first_from (mark_fault all) []) (sym h.rows_are) ∙ none in
@@ -184,7 +187,7 @@ pub right_end : (texts : Fields) (programmes residents : List ℕ) (kept : List 
 right_end texts programmes residents kept all j h known none le r =
     subst (IsRightSo all) (front_all texts programmes residents kept all h known (front_none texts kept all h none)) (walk_done texts h.front kept j (IsRightSo all) (right_passes all) le r)
 
--- a kept row that isn't of an F row is kept of another record
+-- the record of a kept M or U row is no F row
 pub not_filled : (texts : Fields) (mark : Mark) (row : Fields) → MarkSays texts mark row → ((p f q : ℕ) → mark ≡ Filled p f q → ⊥) → is_kind FILLED row ≡ false
 not_filled texts (Matched r p) row h other = rw h.0 refl
 not_filled texts (Unmatched r) row h other = rw h.0 refl

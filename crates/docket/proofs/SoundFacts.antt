@@ -37,7 +37,7 @@ list_row_sound n row own =
     first (k ∷ []) lt all = absurd (omega arith)
     first (k ∷ name ∷ rest) lt all = rw (field-get_or (k ∷ name ∷ rest) 1) (list_all_true_at is_name (name ∷ rest) 0 [] (omega arith) all)
 
--- the first pass makes no test of a row of a sheet besides the row's own
+-- the first pass tests a row of a sheet only by itself
 pub sheet_row_free : (lim : Limits) (before : List Fields) (row : Fields) (k : ℕ) → kind_of row ≡ k → (k == QUOTA) ≡ false → (k == PROGRAMME_LIST) ≡ false
     → (k == RESIDENT_LIST) ≡ false → (k == CAPACITY) ≡ false → (k == EVENT) ≡ false → (k == version_kind) ≡ false → (k == withdrawal_kind) ≡ false
     → option_or (repeat_fault before row) (limit_fault lim before row) ≡ None

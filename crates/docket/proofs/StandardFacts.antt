@@ -48,7 +48,7 @@ told_standard all e (inl read) = (Read read.0, read.1)
 told_standard None e (inr some) = stops_standard (first_from (reading_fault Standard) [] some.0) e (rw (first_standard [] some.0) at some.1)
 told_standard (Some rows) e (inr is) = stops_standard (first_from (reading_fault Standard) [] rows) e (rw (first_standard [] rows) at is)
 
--- what the standard reader answers, in the words of the dockets' own faults
+-- what the standard reader answers, as a fault that every docket may have
 pub read_standard : (known : Option (List ℕ)) (d : Contents) → IfSome known (λ bytes. (fault_within Standard bytes ≡ None) × (d ≡ docket_of bytes))
     → IfSome known (λ bytes. (first_fault bytes ≡ None) × (d ≡ docket_of bytes))
 read_standard None d h = tt

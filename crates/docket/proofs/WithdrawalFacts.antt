@@ -13,8 +13,8 @@ use Rattle.docket.specs.Passes.{is_version_2}
 use Rattle.docket.specs.Declarations.{names_withdrawn}
 use Rattle.docket_names.proofs.NameFacts.{is_declared-map}
 
--- after one more row the names that one side's W rows withdraw have its name in addition, if it is
--- a W row of this side
+-- one more row adds its name to the names that a side's W rows withdraw, if it is a W row of this
+-- side
 pub names_withdrawn-if : (side : List ℕ) (rows : List Fields) (row : Fields)
     → names_withdrawn side (rows ++ row ∷ []) ≡ (if is_row_of withdrawal_kind side row then names_withdrawn side rows ++ field row 2 ∷ [] else names_withdrawn side rows)
 names_withdrawn-if side rows row =
@@ -50,8 +50,7 @@ unfolding is_version_2
 is_version_2-other [] row other = rw other refl
 is_version_2-other (r ∷ rows) row other = refl
 
--- which members of a side are withdrawn is the same after one more row that withdraws nobody of
--- this side
+-- a row that withdraws nobody of a side changes none of this side's flags
 pub withdrawn_of-other : (side : List ℕ) (names : List (List ℕ)) (before : List Fields) (row : Fields) → is_row_of withdrawal_kind side row ≡ false
     → withdrawn_of side names (before ++ row ∷ []) ≡ withdrawn_of side names before
 unfolding withdrawn_of

@@ -8,16 +8,17 @@ use Rattle.match_model.specs.Fault as answers
 use Rattle.match_model.specs.declared.fault.ModelFault.{ModelFault}
 use Rattle.match_model.specs.declared.fault.ModelFault.TheVariants as model
 
--- the error is the fault, or out of memory
+-- the error is out of memory, or this fault of the docket if there is one
 abbrev pub Refuses : Option DocketFault → DocketFault → Type 0
 Refuses fault e = answers.Refuses Memory fault e
 
--- the answer is Ok only if there is no fault; an error is that fault, or out of memory
+-- the answer is Ok only if there is no fault of the docket; an error is this fault, or out of
+-- memory
 abbrev pub Answers : {T : Type 0} → Option DocketFault → Result T DocketFault → Type 0
 Answers fault r = answers.Answers Memory fault r
 
--- the error of reading records is this fault, or out of memory; `StopsAt` says of a result which
--- error it may be
+-- an error of reading records is this fault, or out of memory; `StopsAt` says so of the error in a
+-- result
 abbrev pub Stops : Option RecordsFault → RecordsFault → Type 0
 Stops fault e = answers.Refuses (Docket Memory) fault e
 

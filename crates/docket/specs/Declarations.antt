@@ -36,8 +36,8 @@ pub record AreByWorker (workers : Option ℕ) (who : List ℕ) (rows : List Fiel
   pub who_are : who ≡ who_if workers rows
   pub within : IfSome workers (λ n. AreWorkers n who)
 
--- What the first pass keeps agrees with the records; each name is kept as the number of its text. The builder has
--- no list and no withdrawal yet. No event stands before the capacity.
+-- What the first pass keeps agrees with these records. Each name is kept as the number of its text. The builder
+-- has no list and no withdrawal yet. No event stands before the C row.
 pub record IsDeclared (d : Declarations) (texts : Fields) (rows : List Fields) : Type 0 where
   pub quotas : d.builder.quotas ≡ quotas_of rows
   pub programme_lists : d.builder.programme_lists ≡ map (λ name. None) (programmes_of rows)
@@ -60,8 +60,8 @@ pub record IsDeclared (d : Declarations) (texts : Fields) (rows : List Fields) :
 abbrev pub AreFew : Option ℕ → Type 0
 AreFew workers = IfSome workers (λ n. n ≤ 8)
 
--- The declarations before and after record number `place`. If the old ones fit the records before it, the new
--- ones fit these records and this one. The limits are unchanged, and there are never more than 8 workers.
+-- The declarations before and after record number `place`. If the old ones fit the earlier records, the new
+-- ones fit these and this record. The limits are unchanged, and there are never more than 8 workers.
 pub record Declares (old new : Declarations) (texts : Fields) (place : ℕ) (row : Fields) : Type 0 where
   pub limits : new.builder.limits ≡ old.builder.limits
   pub workers : AreFew old.workers → AreFew new.workers

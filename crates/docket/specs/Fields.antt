@@ -112,7 +112,7 @@ event_names_fault n row = unless (is_name (field row 2) && is_name (field row 3)
 abbrev pub answer_fault : ℕ → Fields → Option DocketFault
 answer_fault n row = option_or (event_names_fault n row) (unless (is_some (answer_of (field row 4))) (BadEvent n))
 
--- the first fault of the fields after an event's word, but for a worker's number
+-- the first fault of the fields after an event's word; a worker's number is not tested here
 abbrev pub event_fields_fault : ℕ → Fields → EventWord → Option DocketFault
 event_fields_fault n row Offer = event_names_fault n row
 event_fields_fault n row Take = event_names_fault n row

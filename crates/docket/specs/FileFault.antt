@@ -1,4 +1,4 @@
--- In which file a fault is, and at which of that file's records.
+-- In which file a fault is, and at which record of this file.
 use Rattle.std.specs.Prelude.{ℕ, ◌-◌, zero, nat_le, Bool, true, false, if◌then◌else◌}
 use Rattle.docket.specs.declared.part.Part.{Part}
 use Rattle.docket.specs.declared.part.Part.TheVariants as part
@@ -26,8 +26,8 @@ number_of Write = zero
 number_of (BadVersion place) = place
 number_of (BadWithdrawal place) = place
 
--- the same kind of fault at the record with this number; a fault of a reader is left as it is, as its record is
--- counted in its file
+-- the same kind of fault at the record with this number; a reader's fault is unchanged, since its record is
+-- already counted in its own file
 abbrev pub at_place : ℕ → DocketFault → DocketFault
 at_place place (Read other) = Read other
 at_place place (TooManyRecords other) = TooManyRecords place
@@ -51,18 +51,18 @@ there_is before (records.Docket fault) = records.Docket (at_place (number_of fau
 there_is before (records.TooManyListed place) = records.TooManyListed (place - before)
 there_is before (records.AnotherPart place) = records.AnotherPart (place - before)
 
--- this file, and the fault with its record counted in this file, if `before` records of other files come before it
+-- the fault of this file: its record is counted in this file, which comes after `before` records of other files
 abbrev pub there : Part → ℕ → RecordsFault → FileFault
 there file before fault = record { file = file; fault = there_is before fault }
 
--- the last file that can have such a fault: the docket for a fault of a list, the sheet for one of the sheet, and
--- else the journal
+-- the last file that can have such a fault: the docket for a fault of a list, the sheet for a fault of the sheet,
+-- and else the journal
 abbrev pub last_file : DocketFault → Part
 last_file (Model place fault) = part.Docket
 last_file (BadSheet place) = part.Sheet
 last_file fault = part.Journal
 
--- whether a part is the docket; `is_sheet` says whether it is the sheet
+-- whether a part of a market's files is the docket; `is_sheet` says whether a part is the sheet
 abbrev pub is_docket : Part → Bool
 is_docket part.Docket = true
 is_docket part.Sheet = false

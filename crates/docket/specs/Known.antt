@@ -8,8 +8,8 @@ use Rattle.docket_names.specs.Texts.{AreNames}
 use Rattle.docket.specs.Passes.{first_from, reading_fault}
 use Rattle.docket.specs.declared.vocabulary.TheConstants.{MAX_RECORDS}
 
--- No text has two numbers. The members are those that the records declare, by the numbers of their names' texts. The
--- first pass finds no fault in the records within the widest limits.
+-- No text has two numbers. The members are the members that the records declare, each by the number of its name's
+-- text. The first pass finds no fault in the records within the widest limits.
 pub record AreKnown (texts : Fields) (programmes residents : List ℕ) (rows : List Fields) : Type 0 where
   pub distinct : IsDistinct bytes_eq texts
   pub programmes_are : AreNames texts programmes (programmes_of rows)

@@ -1,4 +1,4 @@
--- What a stored entry says of the record that the second pass looks at next.
+-- What the store keeps of the record that the second pass tests next.
 use Rattle.std.specs.Prelude.{◌≡◌, ◌<◌, ◌+◌, ℕ, Bool, true, List, [], length, take, drop, is_some, nat_eq, position, slice_index_or, unwrap_or}
 use Rattle.std.specs.List.{list_all}
 use Rattle.match_model.specs.Draft.{Draft}
@@ -15,20 +15,21 @@ use Rattle.docket.specs.declared.store.lists.ListKind.TheVariants.{Ranking, With
 use Rattle.docket.specs.declared.vocabulary.Side.TheVariants.{Programmes, Residents}
 use Rattle.docket.specs.declared.vocabulary.TheConstants.{PROGRAMME_LIST, RESIDENT_LIST}
 
--- whether a member of the side has the text with this number as name; `member_at` is the member who has it
+-- whether the text with this number is the name of a member of the side; `member_at` is this member
 abbrev pub is_member : List ℕ → ℕ → Bool
 is_member members text = is_some (position (nat_eq text) members)
 
 abbrev pub member_at : List ℕ → ℕ → ℕ
 member_at members text = unwrap_or (position (nat_eq text) members) 0
 
--- These names are enough to test the record's list. One of these names is unknown exactly if some name of the
--- record's list is. If none is unknown, they are the whole list.
+-- The kept names can stand for the record's list: some kept name is unknown exactly if some listed name is.
+-- If none is unknown, the kept names are the whole list.
 pub record ShowList (others : List (List ℕ)) (row : Fields) (listed : List (List ℕ)) : Type 0 where
   pub same : list_all (is_declared others) listed ≡ list_all (is_declared others) (drop 2 row)
   pub whole : list_all (is_declared others) listed ≡ true → listed ≡ drop 2 row
 
--- the entry has this record's kind, its owner, and enough of its names for the test of the second pass
+-- the entry has this record's kind and owner, and the second pass can test the entry's names in place
+-- of the record's list
 abbrev pub ShowsRow : List Fields → Fields → ListKind → List ℕ → List (List ℕ) → Type 0
 ShowsRow rows row (Ranking Programmes) owner listed =
     (kind_of row ≡ PROGRAMME_LIST) × (owner ≡ field row 1) × (is_declared (programmes_of rows) owner ≡ true → ShowList (residents_of rows) row listed)
@@ -37,8 +38,8 @@ ShowsRow rows row (Ranking Residents) owner listed =
 ShowsRow rows row (Withdrawal side) owner listed =
     (kind_of row ≡ withdrawal_kind) × (field row 1 ≡ side_text side) × (owner ≡ field row 2) × (listed ≡ [])
 
--- The entry is that of record k + 1, and is enough for the test of this record. The builder has the lists and
--- withdrawals of the k records before it.
+-- The entry is that of record k + 1, and the second pass can test the entry in place of the record. The
+-- builder has the lists and withdrawals of the first k records.
 pub record IsNext (texts : Fields) (programmes residents : List ℕ) (builder : Draft) (rows : List Fields) (k : ℕ) (entry : KeptEntry) : Type 0 where
   pub known : AreKnown texts programmes residents rows
   pub within : IsWithin texts entry

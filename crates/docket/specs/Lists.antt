@@ -37,7 +37,7 @@ list_entry n side row = record { place = n; kind = Ranking side; owner = field r
 abbrev pub gone_entry : ℕ → Side → Fields → ListEntry
 gone_entry n side row = record { place = n; kind = Withdrawal side; owner = field row 2; listed = [] }
 
--- the entry of record n in a list by itself; an empty list if the record is neither a rank list nor a withdrawal
+-- a list of the entry of record n alone; an empty list if the record is neither a rank list nor a withdrawal
 unfoldable pub entry_in : ℕ → Fields → List ListEntry
 entry_in n row =
     if is_kind PROGRAMME_LIST row then list_entry n Programmes row ∷ []
@@ -45,7 +45,7 @@ entry_in n row =
     else if is_kind withdrawal_kind row then gone_entry n (unwrap_or (side_of (field row 1)) Programmes) row ∷ []
     else []
 
--- the entries of records that follow n other records; `entries_of` has those of all records
+-- the entries of records that follow n other records; `entries_of` has the entries of all records
 unfoldable pub entries_from : ℕ → List Fields → List ListEntry
 entries_from n [] = []
 entries_from n (row ∷ rows) = entry_in (n + 1) row ++ entries_from (n + 1) rows
@@ -81,7 +81,7 @@ ArePartsOf names rows = All (λ row. (row.start ≤ row.end) × (row.end ≤ len
 abbrev pub IsWithin : Fields → KeptEntry → Type 0
 IsWithin texts e = (e.owner < length texts) × AreNumbersOf texts e.listed
 
--- the short entry is the whole one, or lacks some names at the end of the whole one's list
+-- the short entry is the whole entry, or lacks some of the last names of the whole entry's list
 pub record IsCutFrom (whole short : ListEntry) : Type 0 where
   pub place : short.place ≡ whole.place
   pub kind : short.kind ≡ whole.kind
@@ -89,7 +89,8 @@ pub record IsCutFrom (whole short : ListEntry) : Type 0 where
   pub rest : List (List ℕ)
   pub listed : whole.listed ≡ short.listed ++ rest
 
--- the first list has the first entries of the second one; the last of them may lack names at the end of its list
+-- the first list has the first entries of the second list; its last entry may lack some of the last names of
+-- that entry's list
 unfoldable pub AreFront : List ListEntry → List ListEntry → Type 0
 AreFront [] all = ⊤
 AreFront (e ∷ kept) [] = ⊥
@@ -100,29 +101,30 @@ AreFront (e ∷ f ∷ kept) (a ∷ all) = (e ≡ a) × AreFront (f ∷ kept) all
 abbrev pub is_among : List (List ℕ) → List ℕ → Bool
 is_among texts text = list_any (bytes_eq text) texts
 
--- all names in an entry; `names_in` has those of all these entries
+-- all names in an entry; `names_in` has the names of all these entries together
 abbrev pub entry_names : ListEntry → List (List ℕ)
 entry_names e = e.owner ∷ e.listed
 
 abbrev pub names_in : List ListEntry → List (List ℕ)
 names_in entries = flat_map entry_names entries
 
--- What the store keeps of these records: their entries. If more texts were new than there can be members, only the
--- first entries may be kept; these have more different names than there can be members.
+-- The store has the entries of the lists and withdrawals in these records. It may have only the first entries
+-- if these have more different names than there can be members.
 pub record AreLists (texts : Fields) (lists : KeptLists) (rows : List Fields) : Type 0 where
   pub within : All (IsWithin texts) lists.entries
   pub whole : lists.brought ≤ MOST_NAMES → map (named texts) lists.entries ≡ entries_of rows
   pub front : AreFront (map (named texts) lists.entries) (entries_of rows)
   pub counted : lists.brought ≤ count_by (is_among (names_in (map (named texts) lists.entries))) texts
 
--- texts were added at the end, and each of them is one of the names in `added`
+-- texts were added at the end of the list of texts, and each added text is one of the names in
+-- `added`
 pub record HaveJoined (texts more added : List (List ℕ)) : Type 0 where
   pub extra : List (List ℕ)
   pub more_are : more ≡ texts ++ extra
   pub among : list_all (is_among added) extra ≡ true
 
--- After a walk over these names, their numbers stand at the end of the sequence. Once there are more new texts than
--- there can be members, no further number is added.
+-- After a walk over these names, the numbers of their texts stand at the end of the sequence. Once there are more
+-- new texts than there can be members, no further number is added.
 pub record AreWalked (texts : Fields) (numbers : List ℕ) (brought : ℕ) (more : Fields) (all : List ℕ) (now : ℕ) (names : List (List ℕ)) : Type 0 where
   pub added : List ℕ
   pub rest : List (List ℕ)
@@ -134,7 +136,8 @@ pub record AreWalked (texts : Fields) (numbers : List ℕ) (brought : ℕ) (more
   pub whole : now ≤ MOST_NAMES → rest ≡ []
   pub cut : MOST_NAMES < brought → added ≡ []
 
--- one more entry is kept, at the end: this entry, or this entry without some names at the end of its list
+-- one more entry is kept, after all others: this entry, or this entry without some of the last names of
+-- its list
 pub record HasEntry (texts more : Fields) (old new : KeptLists) (entry : ListEntry) : Type 0 where
   pub kept : KeptEntry
   pub entries : new.entries ≡ old.entries ++ kept ∷ []
@@ -144,7 +147,8 @@ pub record HasEntry (texts more : Fields) (old new : KeptLists) (entry : ListEnt
   pub joined : HaveJoined texts more (entry_names (named more kept))
   pub count : new.brought + length texts ≡ old.brought + length more
 
--- one more entry is kept, at the end; if too many texts were new before this record, nothing more is kept
+-- one more entry is kept, after all others; but if the earlier records brought too many new texts, the
+-- store is unchanged
 pub record AddsEntry (texts more : Fields) (old new : KeptLists) (entry : ListEntry) : Type 0 where
   pub kept : old.brought ≤ MOST_NAMES → HasEntry texts more old new entry
   pub cut : MOST_NAMES < old.brought → new ≡ old

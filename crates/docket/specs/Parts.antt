@@ -32,7 +32,7 @@ part_of kind =
     else if ((kind == MATCHED) || (kind == UNMATCHED)) || (kind == FILLED) then Some of.Sheet
     else None
 
--- whether the second part is known, and is another than the first
+-- whether the second part is known and differs from the first part
 abbrev pub is_other : Part → Option Part → Bool
 is_other part None = false
 is_other of.Docket (Some of.Docket) = false
@@ -45,24 +45,25 @@ is_other of.Journal (Some of.Docket) = true
 is_other of.Journal (Some of.Sheet) = true
 is_other of.Journal (Some of.Journal) = false
 
--- whether a record's kind belongs to another part than the file's; if the file has no part, no record's kind does
+-- whether a record's kind belongs to a part other than the file's part; in a file without a part each kind may
+-- stand
 abbrev pub is_elsewhere : Option Part → Fields → Bool
 is_elsewhere None row = false
 is_elsewhere (Some part) row = is_other part (part_of (kind_of row))
 
--- the fault of a record whose kind belongs to another part than the file's
+-- the fault of a record whose kind belongs to a part other than the file's part
 abbrev pub kind_fault : Option Part → ℕ → Fields → Option RecordsFault
 kind_fault part n row = if is_elsewhere part row then Some (AnotherPart n) else None
 
--- the first fault of the record after these ones in a file of this part: too many records, another part's record, or
--- a fault that the first pass finds
+-- the first fault of the record that follows these records in a file of this part: too many records, a record of
+-- another part, or a fault that the first pass finds
 unfoldable pub part_fault : Option Part → Limits → List Fields → Fields → Option RecordsFault
 part_fault part limits before row =
     if nat_le (most_records limits) (length before) then Some (Docket (TooManyRecords (next_place before)))
     else option_or (kind_fault part (next_place before) row) (first_pass_fault limits before row)
 
--- One more file of this part was read, after these records, and no fault was found. If the file's records are known,
--- all of them were read.
+-- After these records, one more file of this part was read without a fault. If the file's records are known, all of
+-- them were read.
 pub record GoesOn (part : Option Part) (kept : List Fields) (left : Option (List Fields)) (reading : Reading) : Type 0 where
   pub rows : List Fields
   pub all_are : AreAll left rows
@@ -97,8 +98,8 @@ pub record AreEnds (docket sheet : List ℕ) (ends : Ends) : Type 0 where
   pub docket_end : ends.docket ≡ length (rows_of docket)
   pub sheet_end : ends.sheet ≡ length (rows_of docket ++ rows_of sheet)
 
--- the first fault of three files, with its file: that of the first pass, else that of the later passes over the records
--- of all files
+-- the first fault of three files, with its file: that of the first pass, else that of a later pass over the records of
+-- all files
 abbrev pub fault_of_files : Limits → List ℕ → List ℕ → List ℕ → Option FileFault
 fault_of_files limits docket sheet journal =
     option_or (files_fault limits docket sheet journal)

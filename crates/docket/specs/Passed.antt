@@ -12,8 +12,8 @@ pub record IsPassed (reading : Reading) (rows : List Fields) : Type 0 where
   pub sound : first_from (first_pass_fault reading.declared.builder.limits) [] rows ≡ None
   pub few : length rows ≤ most_records reading.declared.builder.limits
 
--- the reading is of some records in which the first pass finds no fault; if all records are known,
--- it is of all of them
+-- the reading is what the first pass keeps of some records in which it finds no fault; if all
+-- records are known, these are all records
 pub record HasPassed (all : Option (List Fields)) (reading : Reading) : Type 0 where
   pub rows : List Fields
   pub all_are : AreAll all rows

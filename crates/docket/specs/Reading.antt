@@ -1,4 +1,4 @@
--- What the first pass has of the records read so far.
+-- What the first pass keeps of the records that it has read.
 use Rattle.std.specs.Prelude.{◌≡◌, ◌++◌, ◌∷◌, List, [], length}
 use Rattle.records.specs.Reading.{Fields}
 use Rattle.docket.specs.Declarations.{IsDeclared, AreFew}
@@ -7,7 +7,8 @@ use Rattle.docket.specs.SheetRows.{AreSheetRows}
 use Rattle.docket.specs.Events.{AreEvents}
 use Rattle.docket.specs.declared.reading.Reading.{Reading}
 
--- the reading counts these records, and what it declares and stores is what these records say
+-- the reading is what the first pass keeps of these records: their count, what they declare, and
+-- what later passes need
 pub record IsReading (reading : Reading) (rows : List Fields) : Type 0 where
   pub records : reading.records ≡ length rows
   pub declared : IsDeclared reading.declared reading.texts rows
@@ -15,15 +16,16 @@ pub record IsReading (reading : Reading) (rows : List Fields) : Type 0 where
   pub sheet : AreSheetRows reading.texts reading.sheet rows
   pub events : AreEvents reading.texts reading.events rows
 
--- what the reading declares and stores is what these records say; it may count another number of
--- records
+-- the reading keeps what these records declare and what later passes need, but may count another
+-- number of records
 pub record AreStored (reading : Reading) (rows : List Fields) : Type 0 where
   pub declared : IsDeclared reading.declared reading.texts rows
   pub lists : AreLists reading.texts reading.lists rows
   pub sheet : AreSheetRows reading.texts reading.sheet rows
   pub events : AreEvents reading.texts reading.events rows
 
--- the next record is added to what is declared and stored, but not counted yet
+-- what the next record declares and what later passes need of it is kept; the record is not counted
+-- yet
 pub record Stores (old new : Reading) (row : Fields) : Type 0 where
   pub records : new.records ≡ old.records
   pub limits : new.declared.builder.limits ≡ old.declared.builder.limits

@@ -24,7 +24,7 @@ pub record IsMarked (marks : Marks) (rows done : List Fields) : Type 0 where
   pub filled : marks.filled.items ≡ map (λ name. list_any (is_row_of FILLED name) done) (programmes_of rows)
   pub counts : marks.counts.items ≡ map (λ name. count_by (is_matched_with name) done) (programmes_of rows)
 
--- the marks for this many programmes and residents before any row is looked at
+-- the marks for this many programmes and residents before any row was entered into them
 pub record IsBlank (marks : Marks) (programmes residents : ℕ) : Type 0 where
   pub sheet : marks.sheet ≡ replicate residents None
   pub marked : marks.marked.items ≡ replicate residents false
@@ -38,8 +38,8 @@ pub record IsSized (marks : Marks) (programmes residents : ℕ) : Type 0 where
   pub filled : length marks.filled.items ≡ programmes
   pub counts : length marks.counts.items ≡ programmes
 
--- among all records, this record comes right after those before it; `place` is its number, and the mark
--- says what the record says
+-- in the list of all records this record follows the records in `before`; `place` is its number, and
+-- the mark says what the record says
 pub record StandsAfter (texts : Fields) (programmes residents : List ℕ) (all before : List Fields) (place : ℕ) (mark : Mark) (row : Fields) : Type 0 where
   pub known : AreKnown texts programmes residents all
   pub rest : List Fields

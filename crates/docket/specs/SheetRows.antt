@@ -25,7 +25,7 @@ pub record IsKeptOf (texts : Fields) (n : ℕ) (kept : SheetRow) (row : Fields) 
   pub place : kept.place ≡ n
   pub says : MarkSays texts kept.mark row
 
--- one row is kept of each record of a sheet, and nothing of any other record; the first of these records is record n
+-- one row is kept for each record of a sheet, and none for any other record; the first of these records has number n
 abbrev pub AreKeptFrom : Fields → ℕ → List SheetRow → List Fields → Type 0
 AreKeptFrom texts n kept [] = kept ≡ []
 AreKeptFrom texts n [] (row ∷ rows) = (is_sheet_row row ≡ false) × AreKeptFrom texts (n + 1) [] rows

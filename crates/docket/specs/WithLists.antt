@@ -1,4 +1,4 @@
--- How a docket is read when the lists are also wanted as they were written.
+-- How a docket is read together with its lists as they were written.
 use Rattle.std.specs.Prelude.{◌≡◌, ℕ, ◌<◌, Bool, true, false, Option, Some, None, option_map, unwrap_or, List, [], length, map, drop, find, nat_lt}
 use Rattle.std.specs.List.{list_all}
 use Rattle.match_model.specs.declared.limits.Limits.{Limits}
@@ -12,12 +12,13 @@ use Rattle.docket.specs.Passes.{fault_in}
 use Rattle.docket.specs.Texts.{programme_name, resident_name}
 use Rattle.docket.specs.declared.vocabulary.TheConstants.{RESIDENT_LIST}
 
--- the fields after the name, in the record with this kind and this name; none if there is no such record
+-- the fields after the name in the record of this kind with this name; an empty list if there is no such
+-- record
 abbrev pub fields_after : ℕ → List ℕ → List Fields → List (List ℕ)
 fields_after kind name rows = drop 2 (unwrap_or (find (is_row_of kind name) rows) [])
 
--- the rank lists as they were written, where a member without one has an empty list, and beside them each programme's
--- list or none
+-- the rank lists as they were written, where a member without a list has an empty list; and for each programme its
+-- list, or none
 abbrev pub KeptLists : Type 0
 KeptLists = Written × List (Option (List ℕ))
 

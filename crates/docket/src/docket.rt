@@ -79,7 +79,7 @@ impl Model for Docket {
         }) };
 }
 
-// One function drops the whole docket. So a caller that drops a docket need not prove anything about its parts.
+// One function drops the whole docket: callers prove nothing about its parts.
 impl Drop for Docket {
     fn drop(self) {
         let Docket {

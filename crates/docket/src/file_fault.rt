@@ -1,4 +1,4 @@
-//! In which file a fault is, and at which of the file's records.
+//! In which file a fault is, and at which record of the file.
 ghost use Rattle.std.specs.Prelude.{◌≡◌};
 ghost use Rattle.docket.specs.FileFault as spec;
 
@@ -67,19 +67,19 @@ pub(crate) fn at_place(place: u32, fault: DocketFault) -> DocketFault
     }
 }
 
-/// A fault with its file. `before` records of other files come before this file, and the fault's record is counted
-/// without them.
-pub(crate) fn there(file: Part, before: u32, fault: RecordsFault) -> FileFault
-    ensures { result ≡ spec.there file before fault }
+/// A fault with its file, which comes after `records_before` records of other files. The fault's record is counted
+/// in its own file.
+pub(crate) fn fault_in_file(file: Part, records_before: u32, fault: RecordsFault) -> FileFault
+    ensures { result ≡ spec.there file records_before fault }
 {
     FileFault {
         file,
-        fault: there_is(before, fault),
+        fault: there_is(records_before, fault),
     }
 }
 
-// The last of the three files in which a fault of this kind can be. If a list or a sheet lacks something, the fault
-// names the last of all records.
+// The last of the three files in which a fault of this kind can be. A fault that a list or a sheet lacks something
+// names the last record of all files.
 fn last_file(fault: DocketFault) -> Part
     ensures { result ≡ spec.last_file fault }
 {
@@ -114,10 +114,10 @@ fn in_file(ends: &Ends, last: Part, place: u32) -> (Part, u32)
 pub(crate) fn located(ends: &Ends, fault: DocketFault) -> FileFault
     ensures { result ≡ spec.located ends.now.docket ends.now.sheet fault }
 {
-    let (last, again) = (last_file(fault), fault);
+    let (last, same_fault) = (last_file(fault), fault);
     let (file, place) = in_file(ends, last, number_of(fault));
     FileFault {
         file,
-        fault: RecordsFault::Docket(at_place(place, again)),
+        fault: RecordsFault::Docket(at_place(place, same_fault)),
     }
 }

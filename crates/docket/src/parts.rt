@@ -9,7 +9,7 @@ ghost use Rattle.docket.specs.WithLists.{lists_if};
 
 use crate::docket::Docket;
 use crate::fault::DocketFault;
-use crate::file_fault::{Ends, FileFault, located, there};
+use crate::file_fault::{Ends, FileFault, fault_in_file, located};
 use crate::part::Part;
 use crate::programme_lists::ProgrammeLists;
 use crate::read::{docket_from, read_part};
@@ -37,10 +37,10 @@ fn read_file(
     ensures fault { IfErr result (λ e. (kept : List Fields) → IsPassed reading.old kept → Tells
         (file_fault file reading.old.declared.builder.limits kept (rows_of bytes.now)) e) }
 {
-    let before = reading.records;
+    let records_before = reading.records;
     match read_part(alloc, Some(file), bytes, reading) {
         Ok(()) => Ok(()),
-        Err(fault) => Err(there(file, before, fault)),
+        Err(fault) => Err(fault_in_file(file, records_before, fault)),
     }
 }
 
@@ -65,13 +65,13 @@ fn read_three(
         reading.old.declared.builder.limits docket.now sheet.now journal.now)) }
 {
     read_file(alloc, Part::Docket, docket, reading)?;
-    let first = reading.records;
+    let docket_end = reading.records;
     read_file(alloc, Part::Sheet, sheet, reading)?;
-    let second = reading.records;
+    let sheet_end = reading.records;
     read_file(alloc, Part::Journal, journal, reading)?;
     Ok(Ends {
-        docket: first,
-        sheet: second,
+        docket: docket_end,
+        sheet: sheet_end,
     })
 }
 
@@ -145,8 +145,8 @@ pub fn read_parts_with_lists<H: RandomSource>(
         (Tells (fault_of_files limits docket.now sheet.now journal.now)) }
 {
     let (docket, lists) = parts_as(rt, alloc, limits, docket, sheet, journal, true)?;
-    let Some((lists, given)) = lists else {
+    let Some((lists, programme_lists)) = lists else {
         unreachable!("the lists are kept");
     };
-    Ok((docket, lists, given))
+    Ok((docket, lists, programme_lists))
 }

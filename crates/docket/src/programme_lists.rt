@@ -32,7 +32,7 @@ fn put(lists: &mut Vec<Option<Vec<ResidentNo>>>, place: usize, list: Vec<Residen
 }
 
 impl ProgrammeLists {
-    /// This many programmes, none of which has a list yet.
+    /// The lists of this many programmes before any list is given.
     pub(crate) fn none(alloc: Global, programmes: usize) -> Result<ProgrammeLists, AllocError>
         ensures { IfOk result (λ lists. lists ≡ replicate programmes None) }
     {

@@ -12,8 +12,8 @@ use match_model::Limits;
 use std::alloc::Global;
 use std::hash::RandomState;
 
-/// What the first pass has of the records so far: how many there are, what they declare, and what each later pass needs
-/// of them.
+/// What the first pass keeps of the records so far: how many there are, what they declare, and what each later pass
+/// needs.
 #[derive(Drop)]
 pub(crate) struct Reading {
     pub(crate) records: u32,
@@ -25,8 +25,8 @@ pub(crate) struct Reading {
 }
 
 impl Reading {
-    /// What the first pass has before any record is read. Texts that are added later are hashed with these keys, and
-    /// declarations have to be within these limits.
+    /// What the first pass keeps before any record is read. Texts that are added later are hashed with these keys,
+    /// and declarations have to be within these limits.
     pub(crate) fn new(alloc: Global, keys: RandomState, limits: Limits) -> Reading
         ensures reading { IsReading result [] }
         ensures limits { result.declared.builder.limits ≡ limits }

@@ -1,4 +1,4 @@
-//! Why records could not be read as a docket, where limits or files give faults of their own.
+//! Why records could not be read as a docket. Limits and files add faults to those of a docket.
 ghost use Rattle.std.specs.Prelude.{◌≡◌};
 ghost use Rattle.docket.specs.FileFault as spec;
 ghost use Rattle.docket.specs.Read.{IsOfDocket};
@@ -85,7 +85,7 @@ impl From<DocketFault> for RecordsFault {
     }
 }
 
-/// The docket's own fault in a fault of records that is one.
+/// A fault of records as a docket's fault; the fault is one that every docket may have.
 pub(crate) fn of_docket(fault: RecordsFault) -> DocketFault
     requires { IsOfDocket fault }
     ensures { fault ≡ Docket result }
@@ -98,21 +98,22 @@ pub(crate) fn of_docket(fault: RecordsFault) -> DocketFault
     }
 }
 
-/// The fault with its record counted in its own file. `before` records of other files come before that file.
-pub(crate) fn there_is(before: u32, fault: RecordsFault) -> RecordsFault
-    ensures { result ≡ spec.there_is before fault }
+/// The fault with its record counted in its own file, which comes after `records_before` records of other
+/// files.
+pub(crate) fn there_is(records_before: u32, fault: RecordsFault) -> RecordsFault
+    ensures { result ≡ spec.there_is records_before fault }
 {
     match fault {
         RecordsFault::Docket(fault) => {
-            let again = fault;
-            let place = number_of(fault).saturating_sub(before);
-            RecordsFault::Docket(at_place(place, again))
+            let same_fault = fault;
+            let place = number_of(fault).saturating_sub(records_before);
+            RecordsFault::Docket(at_place(place, same_fault))
         }
         RecordsFault::TooManyListed { place } => RecordsFault::TooManyListed {
-            place: place.saturating_sub(before),
+            place: place.saturating_sub(records_before),
         },
         RecordsFault::AnotherPart { place } => RecordsFault::AnotherPart {
-            place: place.saturating_sub(before),
+            place: place.saturating_sub(records_before),
         },
     }
 }

@@ -3,4 +3,5 @@ pub mod FourFacts
 pub mod NameKeyFacts
 pub mod NameFacts
 pub mod TextFacts
+pub mod GuessFacts
 pub mod MemberFacts

@@ -13,7 +13,7 @@ use Rattle.docket_names.specs.Texts.{number_in, is_declared, texts_at, AreNumber
 use Rattle.docket_names.proofs.NameFacts.{is_some-position, number_in-map, number_there, same_bytes}
 use Rattle.docket_names.proofs.TextFacts.{names_none, names_grown, names_more, number_found, number_text}
 
--- if no item before passed a test and the next item passes, the search finds this one
+-- if no earlier item passes a test and the next item passes, the search finds the next item
 from_hit : {A : Type 0} (p : A → Bool) (n : ℕ) (xs : List A) (x : A) → position_from p n xs ≡ None → p x ≡ true → position_from p n (xs ++ x ∷ []) ≡ Some (n + length xs)
 from_hit p n [] x none hit = let count : n ≡ n + 0 = omega arith in rw hit (ap Some count)
 from_hit p n (y ∷ ys) x none hit = by (p y) none (λ e. from_hit p (n + 1) ys x e hit)
@@ -133,7 +133,7 @@ noted_grown texts more noted names s h = record {
   noted_are = h.noted_are;
 }
 
--- a set of noted names after one more name: this name is noted, and the others as before
+-- a set of noted names stays right if the flag of one more name is set
 pub noted_more : (texts : List (List ℕ)) (noted all : List Bool) (names : List (List ℕ)) (n : ℕ) (name : List ℕ) → AreNoted texts noted names
     → slice_get texts n ≡ Some name → is_name name ≡ true → ((k : ℕ) → get_or all k false ≡ (nat_eq k n || get_or noted k false)) → AreNoted texts all (names ++ name ∷ [])
 noted_more texts noted all names n name h at is more = record {
@@ -154,7 +154,7 @@ pub noted_asked : (texts : List (List ℕ)) (noted : List Bool) (names : List (L
     → slice_get texts n ≡ Some name → get_or noted n false ≡ is_declared names name
 noted_asked texts noted names n name d h at = h.noted_are n ∙ name_asked texts h.numbers names n name d h.names_are at
 
--- after the flag of a text is set, this flag is true and all others are as before
+-- setting a text's flag makes this flag true and changes no other flag
 pub noted_set : (noted : List Bool) (text n : ℕ) → text < length noted → get_or (slice_set noted text true) n false ≡ (nat_eq n text || get_or noted n false)
 noted_set noted text n lt = by (nat_eq n text) refl
   where

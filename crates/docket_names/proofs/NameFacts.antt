@@ -27,7 +27,8 @@ and_both true true e f = refl
 and_both true false e f = absurd (cc f)
 and_both false b e f = absurd (cc e)
 
--- the position of an item in a mapped list is its position in the list before
+-- a search in a mapped list finds the position that a search with the mapped test finds in the list
+-- itself
 position_from-map : {A B : Type 0} (p : B → Bool) (f : A → B) (n : ℕ) (xs : List A) → position_from p n (map f xs) ≡ position_from (λ x. p (f x)) n xs
 position_from-map p f n [] = refl
 position_from-map p f n (x ∷ xs) = ap (λ o. cond (p (f x)) (Some n) o) (position_from-map p f (n + 1) xs)
@@ -48,7 +49,7 @@ is_some-position_from p n (x ∷ xs) = by (p x) (is_some-position_from p (n + 1)
 pub is_some-position : {A : Type 0} (p : A → Bool) (xs : List A) → is_some (position p xs) ≡ list_any p xs
 is_some-position p xs = ap is_some (position_from-zero p xs) ∙ is_some-position_from p 0 xs
 
--- some item of a mapped list passes a test exactly if the test of a mapped item passes in the list before
+-- some item of a mapped list passes a test exactly if some item of the list passes it after it is mapped
 pub list_any-map : {A B : Type 0} (p : B → Bool) (f : A → B) (xs : List A) → list_any p (map f xs) ≡ list_any (λ x. p (f x)) xs
 list_any-map p f [] = refl
 list_any-map p f (x ∷ xs) = ap (λ b. p (f x) || b) (list_any-map p f xs)
@@ -161,7 +162,7 @@ longer_unnumbered texts text all h = by (position (bytes_eq text) texts) refl
 pub is_declared-map : {K : Type 0} (f : K → List ℕ) (keys : List K) (name : List ℕ) → is_declared (map f keys) name ≡ list_any (λ k. bytes_eq name (f k)) keys
 is_declared-map f keys name = is_declared-any (map f keys) name ∙ list_any-map (bytes_eq name) f keys
 
--- if no name on a list equals x, and one of them stands at index i, then it isn't x
+-- if no name on a list equals x, the name at index i isn't x
 apart : (x name : List ℕ) (names : List (List ℕ)) (i : ℕ) → AllByRecursion (λ y. bytes_eq x y ≡ false) names → slice_get names i ≡ Some name → bytes_eq x name ≡ false
 apart x name [] i all at = absurd (cc at)
 apart x name (y ∷ ys) zero all at = let same : y ≡ name = cc at in rw (← same) all.0

@@ -7,12 +7,12 @@ use Rattle.std.proofs.lemmas.Slice.Eq.{bytes_eq-Decides}
 use Rattle.docket_names.specs.NameKeys.{filled, IsFilled}
 use Rattle.docket_names.specs.declared.name_key.TheConstants.{MAX_NAME}
 
--- as many items of two joined lists as the first list has are the first list
+-- the first items of two joined lists, as many as the first list has, are the first list
 take_front : (xs ys : List ℕ) → take (length xs) (xs ++ ys) ≡ xs
 take_front [] ys = refl
 take_front (x ∷ xs) ys = ap (λ (l : List ℕ). x ∷ l) (take_front xs ys)
 
--- a text followed by zeros up to 32 bytes is filled up
+-- a text followed by zeros up to 32 bytes is the filled-up text of the definition
 pub filled_by : (text rest : List ℕ) → length text ≤ MAX_NAME → rest ≡ replicate (MAX_NAME - length text) 0 → IsFilled (length text) (text ++ rest)
 unfolding filled
 filled_by text rest few zeros = record { fits = few; filled_up = rw (take_front text rest) (ap (λ (l : List ℕ). text ++ l) zeros) }
@@ -128,8 +128,7 @@ pub by_eights : (a b : List ℕ) → length a ≡ 32 → length b ≡ 32 → tak
     → take 8 (drop 16 a) ≡ take 8 (drop 16 b) → take 8 (drop 24 a) ≡ take 8 (drop 24 b) → a ≡ b
 by_eights a b m n e f g h = four_eights a m ∙ rw (e, f, g, h) (sym (four_eights b n))
 
--- two lists are equal exactly if the four numbers of one equal the four numbers of the other, when these numbers
--- determine the lists
+-- if four numbers determine a list, two lists are equal exactly if their four numbers are
 pub words_tell : (a b : List ℕ) (p q r s t u v w : ℕ) → (a ≡ b → (p ≡ t) × (q ≡ u) × (r ≡ v) × (s ≡ w))
     → (p ≡ t → q ≡ u → r ≡ v → s ≡ w → a ≡ b) → (((nat_eq p t && nat_eq q u) && nat_eq r v) && nat_eq s w) ≡ bytes_eq a b
 words_tell a b p q r s t u v w apart together = by (((nat_eq p t && nat_eq q u) && nat_eq r v) && nat_eq s w) refl (bytes_eq a b) refl

@@ -1,6 +1,6 @@
 -- Texts that are stored once and used by their numbers.
 use Rattle.std.proofs.Common.{◌≡◌, ◌≤◌, ◌<◌, ℕ, suc, List, [], ◌∷◌, ◌++◌, Bool, true, false, length, get_or, map, take, arith, sym, ◌∙◌, refl, ap, Some, inl, inr}
-use Rattle.std.specs.Prelude.{slice_get, bytes_eq, if◌then◌else◌, ◌&&◌}
+use Rattle.std.specs.Prelude.{slice_get, bytes_eq, if◌then◌else◌}
 use Rattle.std.specs.List.{list_all}
 use Rattle.std.proofs.lemmas.List.{map_push, length-map, get_or-map, get_or-take, take_all, take-take, length-take, take-append-le}
 use Rattle.std.proofs.lemmas.List.Elements.{All-nil, All-push, All-weaker}

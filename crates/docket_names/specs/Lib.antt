@@ -1,3 +1,4 @@
 pub mod Words
 pub mod NameKeys
 pub mod Texts
+pub mod Guesses

@@ -1,4 +1,4 @@
--- How the code keeps a name that is looked up by its text.
+-- The form in which the code keeps a name that is found by its text.
 use Rattle.std.specs.Prelude.{◌≡◌, ◌≤◌, ◌-◌, ◌++◌, ℕ, nat_le, if◌then◌else◌, List, length, take, replicate}
 use Rattle.docket_names.specs.declared.name_key.TheConstants.{MAX_NAME}
 

@@ -5,6 +5,7 @@
 //! guesses each text is found by its hash.
 #![tactic(auto)]
 
+mod guesses;
 mod members;
 mod name_key;
 mod name_set;

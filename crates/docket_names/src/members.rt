@@ -25,7 +25,7 @@ impl Model for Members {
     ghost invariant = { λ m. AreFoundBy m.by_text.items m.texts.items };
 }
 
-// Makes the list long enough for the text with this number. This makes no text a member's name.
+// Makes the list long enough for the text with this number. The added entries are none.
 fn reach(by_text: &mut Vec<Option<u32>>, text: usize) -> Result<(), AllocError>
     ensures kept { (texts : List ℕ)
         → AreFoundBy by_text.old.items texts → AreFoundBy by_text.new.items texts }

@@ -13,9 +13,6 @@ use std::marker::Model;
 /// The greatest length of a name, in bytes.
 pub(crate) const MAX_NAME: usize = 32;
 
-/// How many entries a table of guesses has.
-pub(crate) const PLACES: usize = 65_536;
-
 /// A text of at most 32 bytes, filled up with zeros. Keys are hashed and compared by whole words of eight bytes, and
 /// most names are one word long.
 #[derive(Drop)]
@@ -67,15 +64,20 @@ impl NameKey {
         self.len as usize == text.len() && first_word(&self.bytes) == word
     }
 
-    /// The entry of the text in a table of guesses. If several texts have the same entry, a guess may fail, and has no
-    /// other effect.
+    /// The text as a single number. For a text of at most eight bytes it is these bytes, filled up with zeros. For a
+    /// longer text it is a mixture of all its words.
     #[inline(always)]
-    pub(crate) fn place(&self) -> usize {
+    pub(crate) fn word(&self) -> u64
+        ensures { length self.now ≤ 8 → to_le_bytes w64 result ≡ take 8 (filled self.now) }
+    {
         let first = first_word(&self.bytes);
+        if self.len <= 8 {
+            return first;
+        }
         let second = word_at(&self.bytes, 8).rotate_left(7);
         let third = word_at(&self.bytes, 16).rotate_left(14);
         let fourth = word_at(&self.bytes, 24).rotate_left(21);
-        place_of(first ^ second ^ third ^ fourth)
+        first ^ second ^ third ^ fourth
     }
 }
 
@@ -110,13 +112,6 @@ pub(crate) fn short_word(text: &[u8]) -> u64
         1 => word_of(&[text[0], 0, 0, 0, 0, 0, 0, 0]),
         _ => word_of(&[0; 8]),
     }
-}
-
-/// The entry of a text in a table of guesses, computed from one word. For a text of more than eight bytes, `word` is a
-/// mixture of all its words.
-#[inline(always)]
-pub(crate) fn place_of(word: u64) -> usize {
-    (word.wrapping_mul(0x9E37_79B9_7F4A_7C15) >> 48) as usize
 }
 
 // The first eight bytes as a single number.

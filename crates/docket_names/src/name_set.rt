@@ -19,7 +19,7 @@ impl Model for NameSet {
     ghost view = { λ s. s.by_text.items };
 }
 
-// Makes the list long enough for the text with this number. This puts no text into the set.
+// Makes the list long enough for the text with this number. The set stays the same.
 fn reach(by_text: &mut Vec<bool>, text: usize) -> Result<(), AllocError>
     ensures kept { (n : ℕ)
         → slice_index_or by_text.new.items n false ≡ slice_index_or by_text.old.items n false }

@@ -30,7 +30,7 @@ impl Model for Names {
         × AreNames a.texts a.residents (texts_at a.texts a.residents) };
 }
 
-// One function drops all names. So a caller that drops names need not prove anything about their parts.
+// One function drops all names: callers prove nothing about their parts.
 impl Drop for Names {
     fn drop(self) {
         let Names {

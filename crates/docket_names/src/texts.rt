@@ -6,43 +6,44 @@ ghost use Rattle.docket_names.specs.NameKeys.{filled};
 ghost use Rattle.docket_names.specs.Texts.{number_in, StartsWith, IsJoined};
 ghost use Rattle.docket_names.specs.Words as words;
 
-use crate::name_key::{MAX_NAME, NameKey, PLACES, place_of, short_word};
+use crate::guesses::{Guess, NEAR, find_short, make_room, number_at, place_of, set_guess};
+use crate::name_key::{MAX_NAME, NameKey, short_word};
 use crate::words::is_name;
 use indexmap::IndexSet;
 use std::alloc::{AllocError, Global};
 use std::hash::RandomState;
 use std::marker::Model;
 
-// With fewer different texts than this, no number is guessed, so that a small docket needs no table of guesses.
-const FEW: usize = 64;
-
 /// The different texts, numbered from 0, in the order in which they were first seen. Each text has the form of a name.
 ///
 /// To find a text, its number is guessed first. If texts come in the order of their numbers, the guess is the number
-/// after the last one. Otherwise the two entries for the text in the table of guesses are tried. The text with a
-/// guessed number is always compared with the text looked for. If no guess is right, the text is found by its hash.
+/// after the last one. Otherwise the entries for the text in the table of guesses are tried. A text of at most eight
+/// bytes is compared with the guess, and a longer one with the text that has the guessed number. If no guess is right,
+/// the text is found by its hash.
 pub struct Texts {
     alloc: Global,
     seen: IndexSet<NameKey, RandomState>,
     // The number after the one found last, and whether the text found last came right after the one before it.
     next: usize,
     in_order: bool,
-    guesses: Vec<u32>,
+    guesses: Vec<Guess>,
 }
 
 impl Model for Texts {
     ghost use Rattle.std.specs.Prelude.{List, ℕ, ◌≡◌, true};
     ghost use Rattle.std.specs.List.{list_all};
     ghost use Rattle.docket_names.specs.Words.{is_name};
+    ghost use Rattle.docket_names.specs.Guesses.{AreGuesses};
 
     ghost Value = { List (List ℕ) };
 
     ghost view = { λ a. a.seen.keys };
 
-    ghost invariant = { λ a. list_all is_name a.seen.keys ≡ true };
+    ghost invariant = { λ a. (list_all is_name a.seen.keys ≡ true)
+        × AreGuesses a.seen.keys a.guesses.items };
 }
 
-// One function drops all texts. So a caller that drops texts need not prove anything about their parts.
+// One function drops all texts: callers prove nothing about their parts.
 impl Drop for Texts {
     fn drop(self) {
         let Texts {
@@ -124,19 +125,11 @@ impl Texts {
         }
     }
 
-    // The guessed number in an entry of the table. Without a table the guess is a number that no text has.
-    #[inline(always)]
-    fn guess(&self, place: usize) -> usize {
-        match self.guesses.get(place) {
-            Some(guess) => *guess as usize,
-            None => usize::MAX,
-        }
-    }
-
     // The number of this text, if a guess finds it. The text has at most eight bytes, and `word` is these bytes,
     // filled up with zeros, as a number.
     #[inline(always)]
     fn guess_short(&self, text: &[u8], word: u64) -> Option<usize>
+        requires some { 0 < length text.now }
         requires short { length text.now ≤ 8 }
         requires word { to_le_bytes w64 word ≡ take 8 (filled text.now) }
         ensures { IfSome result (λ n. slice_get self.now n ≡ Some text.now) }
@@ -145,16 +138,7 @@ impl Texts {
         if self.in_order && self.is_short(next, text, word) {
             return Some(next);
         }
-        let place = place_of(word);
-        let first = self.guess(place);
-        if self.is_short(first, text, word) {
-            return Some(first);
-        }
-        let second = self.guess(place ^ 1);
-        if self.is_short(second, text, word) {
-            return Some(second);
-        }
-        None
+        find_short(&self.guesses, text, word)
     }
 
     // The number of this text, if a guess finds the text.
@@ -166,14 +150,14 @@ impl Texts {
         if self.in_order && self.is_text(next, text) {
             return Some(next);
         }
-        let place = text.place();
-        let first = self.guess(place);
-        if self.is_text(first, text) {
-            return Some(first);
-        }
-        let second = self.guess(place ^ 1);
-        if self.is_text(second, text) {
-            return Some(second);
+        let word = text.word();
+        let place = place_of(word, self.guesses.len());
+        for k in 0..NEAR {
+            if let Some(number) = number_at(&self.guesses, place ^ k, word)
+                && self.is_text(number, text)
+            {
+                return Some(number);
+            }
         }
         None
     }
@@ -183,13 +167,10 @@ impl Texts {
     fn guessed(&self, text: &[u8]) -> Option<usize>
         ensures { IfSome result (λ n. slice_get self.now n ≡ Some text.now) }
     {
-        let len = text.len();
-        if len <= 8 {
-            self.guess_short(text, short_word(text))
-        } else if len <= MAX_NAME {
-            self.guess_text(&NameKey::new(text))
-        } else {
-            None
+        match text.len() {
+            1..=8 => self.guess_short(text, short_word(text)),
+            9..=MAX_NAME => self.guess_text(&NameKey::new(text)),
+            _ => None,
         }
     }
 
@@ -209,7 +190,7 @@ impl Texts {
         ensures number { IfSome result (λ n. slice_get self.new n ≡ Some text.now) }
         ensures named { is_some result ≡ true → words.is_name text.now ≡ true }
     {
-        // Only the proof needs this line: each text has the form of a name.
+        // For the proof alone: each text has the form of a name.
         let _seen = &self.seen;
         let number = self.guessed(text)?;
         self.note(number);
@@ -258,12 +239,10 @@ impl Texts {
         ensures joined { IfOk result (λ n. IsJoined self.old self.new name.now) }
     {
         let key = NameKey::new(name);
-        let place = key.place();
+        let word = key.word();
         let number = insert(&mut self.seen, key)?;
-        if number >= FEW {
-            make_room(self.alloc, &mut self.guesses)?;
-        }
-        set_guess(&mut self.guesses, place, number);
+        make_room(self.alloc, &mut self.guesses, number)?;
+        set_guess(&mut self.guesses, word, name.len(), number);
         self.note(number);
         Ok(number)
     }
@@ -280,31 +259,4 @@ fn insert(seen: &mut IndexSet<NameKey, RandomState>, name: NameKey) -> Result<us
 {
     let (number, _) = seen.insert_full(name)?;
     Ok(number)
-}
-
-// Makes the table of guesses, if it was not made yet.
-fn make_room(alloc: Global, guesses: &mut Vec<u32>) -> Result<(), AllocError> {
-    if guesses.is_empty() {
-        *guesses = Vec::from_elem(alloc, 0, PLACES)?;
-    }
-    Ok(())
-}
-
-// The guess in an entry of the table, or 0 past the table's end.
-fn guess_at(guesses: &Vec<u32>, place: usize) -> u32 {
-    match guesses.get(place) {
-        Some(guess) => *guess,
-        None => 0,
-    }
-}
-
-// Makes this number a guess in an entry of the table. If the entry has a guess already and its neighbour has none,
-// the neighbour gets the new guess.
-fn set_guess(guesses: &mut Vec<u32>, place: usize, number: usize) {
-    let other = place ^ 1;
-    let is_taken = guess_at(guesses, place) != 0;
-    let is_other = is_taken && guess_at(guesses, other) == 0;
-    if let Some(guess) = guesses.get_mut(if is_other { other } else { place }) {
-        *guess = u32::try_from(number).unwrap_or(0);
-    }
 }

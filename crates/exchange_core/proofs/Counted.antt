@@ -1,4 +1,4 @@
--- The number of desks that pass a test, after one desk changes.
+-- The count of desks that pass a test, after one desk changes.
 use Rattle.std.proofs.Common.{◌≡◌, ℕ, ◌+◌, ◌<◌, List, Option, Some, None, Bool, true, false, cond, not, length, map, get_or, refl, sym, ap, ◌∙◌, arith}
 use Rattle.std.specs.Prelude.{slice_set, nat_lt, is_some}
 use Rattle.std.specs.List.{count_by}
@@ -37,12 +37,13 @@ module _ {X Y : Type 0} (test : Y → Bool) (f : X → Y) (seats : List X) (i n 
       let yes = count_by_more_yes test (map f seats) i (f seat) (omega (arith, h, length-map seats f)) (ap test shown ∙ sym same ∙ passes) in
       omega (arith, counted, yes, sum_by-take-le (λ y. cond (test y) 1 0) (map f seats) (i + 1))
 
-  -- if one desk's row is replaced and the desk is counted again, the count is right for the new rows
+  -- if one desk's state is replaced and the desk is counted again, the count is right for the new
+  -- states
   pub counted_anew : (rows : List Y) (y : Y) (m : ℕ) (was now : Bool) → rows ≡ slice_set (map f seats) i y → was ≡ test (f seat) → now ≡ test y → m + cond was 1 0 ≡ n + cond now 1 0 → m ≡ count_by test rows
   counted_anew rows y m was now changed before after recounted =
       let set = sum_by-set (λ z. cond (test z) 1 0) (map f seats) i y (f seat) (omega (arith, h, length-map seats f)) in
       omega (arith, recounted, counted, set, ap (λ (b : Bool). cond {A = ℕ} b 1 0) before, ap (λ (b : Bool). cond {A = ℕ} b 1 0) after, ap (λ (z : Y). cond {A = ℕ} (test z) 1 0) shown, ap (λ (ys : List Y). count_by test ys) changed)
 
-  -- if one seat is replaced and counted again, and all notes are as before, the count is right for the new seats
+  -- if one seat is replaced and counted again, and no note changes, the count is right for the new seats
   pub counted_set : (new : X) (m : ℕ) (was now : Bool) → was ≡ test (f seat) → now ≡ test (f new) → m + cond was 1 0 ≡ n + cond now 1 0 → m ≡ count_by test (map f (slice_set seats i new))
   counted_set new m was now before after recounted = counted_anew (map f (slice_set seats i new)) (f new) m was now (map-set f seats i new) before after recounted

@@ -4,7 +4,7 @@ use Rattle.std.proofs.Common.{◌≡◌, ℕ, suc, zero, ◌+◌, ◌<◌, ◌�
 use Rattle.std.proofs.lemmas.Bool.{cases_lt}
 use Rattle.exchange_core.specs.Refusal.{first_of, first_below}
 
--- if the first option is none, the first value is the second option's
+-- if the first option is none and the second has a value, this value is the first value
 pub first_of_second : {X : Type 0} (a b : Option X) (x : X) → a ≡ None → b ≡ Some x → first_of (a ∷ b ∷ []) ≡ Some x
 first_of_second None None x e h = cc
 first_of_second None (Some y) x e h = h

@@ -63,7 +63,8 @@ module _ (inst : Instance) (left : Left) where
   all_at_rest core quiet content = first_of_none (first_below (resident_pending_at left) (length inst.resident_lists)) (first_below (programme_pending_at left) (length inst.quotas))
       (quiet_residents core quiet) (content_programmes core content)
 
-  -- if a pair of desks was looked at that has resident r's, and it has no event, r's desk has none
+  -- if the two desks that were looked at have no event, and one of them is resident r's, no event
+  -- of r's desk may follow
   pub resident_looked_at : (desks : Option (ℕ × ℕ)) (r : ℕ) → IfSome desks (λ (d : ℕ × ℕ). d.1 ≡ r) × (desks ≢ None) → IfSome desks (HaveNoEvent inst left) → HasNoResidentEvent inst left r
   resident_looked_at None r at none = absurd (at.1 refl)
   resident_looked_at (Some d) r at none = subst (HasNoResidentEvent inst left) at.0 none.1

@@ -73,7 +73,7 @@ beats_all-false a l p e = step (and_cases _ _ e)
     step (inl u) = inl (is_listed-false a p u)
     step (inr u) = let w = list_all_fails (λ v. ltb (place a p) (place a v)) l u in inr (w.0, w.1, ltb-false _ _ w.2)
 
--- an item that beats all earlier items is the best of them and itself
+-- an item that beats all earlier items is the best of the earlier items and itself
 pub best_of_push_better : (a l : List ℕ) (p : ℕ) → beats_all a l p ≡ true → best_of a (l ++ p ∷ []) ≡ Some p
 best_of_push_better a l p e =
     let r = beats_all-true a l p e in

@@ -121,7 +121,7 @@ held_not_rejected a l p h e =
     let held : holds_one (best_of a l) p ≡ 1 = ap (λ b. cond b 1 0) (number_to (best_of a l) p e) in
     omega (arith, held_or_rejected a l p, held, count_from_no_repeats l h p)
 
--- every programme in a list of offers that isn't the best is rejected once
+-- each offering programme but the best is rejected once
 pub others_rejected : (a l : List ℕ) (p : ℕ) → HasNoRepeats l → IsListed l p → (best_of a l ≡ Some p → ⊥) → rejections_of p (calls a l) ≡ 1
 others_rejected a l p h k n =
     let other = false_from_ne_true (is_number (best_of a l) p) (λ e. n (number_from (best_of a l) p e)) in

@@ -28,12 +28,12 @@ same_seat xs i a b h e f = e ∙ any_default xs i a b h ∙ sym f
 pub index_within : {X Y : Type 0} (f : X → Y) (seats : List X) (now : List Y) (i r : ℕ) → map f seats ≡ now → i ≡ r → r < length now → i < length seats
 index_within f seats now i r e q h = omega (arith, h, q, ap (λ ys. length ys) e, length-map seats f)
 
--- to replace one row by what g makes of it gives the same rows, if it is done in equal lists at the same place
+-- if one row is replaced by what g makes of it, at the same place of two equal lists, the lists stay equal
 pub updated : {Y : Type 0} (v now : List Y) (i r : ℕ) (g : Y → Y) (d : Y) → v ≡ now → i ≡ r → slice_set v i (g (get_or v i d)) ≡ slice_set now r (g (get_or now r d))
 updated v now i r g d e f = λ k. slice_set (e k) (f k) (g (get_or (e k) (f k) d))
 
--- if one seat is changed and all notes stay the same, the rows that are shown are those before with this seat's row
--- replaced
+-- if one seat is changed and no note changes, only this seat's desk changes among the desks that the seats stand
+-- for
 pub changed : {X Y : Type 0} (f : X → Y) (seats : List X) (now : List Y) (i r : ℕ) (seat new : X) (g : Y → Y) (d : Y) → map f seats ≡ now → i ≡ r → r < length now → seat ≡ get_or seats i seat → f new ≡ g (f seat) →
     map f (slice_set seats i new) ≡ slice_set now r (g (get_or now r d))
 changed f seats now i r seat new g d e q h is here =
@@ -61,7 +61,8 @@ pub front_none : {X Y : Type 0} (f : X → Y) (xs : List X) → slice_get xs 0 �
 front_none f [] e = refl
 front_none f (y ∷ ys) e = cc
 
--- the desk at a seat's place in the rows that are shown is what this seat shows
+-- in the list of desks that the seats stand for, the desk at a seat's place is the one that this
+-- seat stands for
 pub now_at : {X Y : Type 0} (f : X → Y) (seats : List X) (now : List Y) (i r : ℕ) (seat : X) (d : Y) → map f seats ≡ now → i ≡ r → r < length now → seat ≡ get_or seats i seat → get_or now r d ≡ f seat
 now_at f seats now i r seat d e q h is =
     sym (λ k. get_or (e k) (q k) d) ∙ get_or-map f seats i seat d (index_within f seats now i r e q h) ∙ ap f (sym is)
@@ -86,8 +87,7 @@ module _ {X Y : Type 0} (part : X → Part) (shown : List ℕ → X → Y) where
   pub rings_set : (seats : List X) (i : ℕ) (new : X) → IsRing (part new) → All (λ x. IsRing (part x)) seats → All (λ x. IsRing (part x)) (slice_set seats i new)
   rings_set seats i new ring rings = All-set (λ x. IsRing (part x)) seats i new ring rings
 
-  -- if one seat is changed and a note is written behind its waiting notes, the rows that are shown change at this
-  -- seat only
+  -- if one seat is changed and a note is written behind the seat's waiting notes, only this seat's desk changes
   pub shown_pushed : ((s : X) (notes notes' : List ℕ) → waiting_in notes (part s) ≡ waiting_in notes' (part s) → shown notes s ≡ shown notes' s) →
       (seats : List X) (notes : List ℕ) (i note : ℕ) (seat new : X) (y : Y) → i < length seats → seat ≡ get_or seats i seat → AreLaid (map (λ x. span (part x)) seats) (length notes) → All (λ x. IsRing (part x)) seats →
       (part seat).len < (part seat).room → shown (slice_set notes (place_in (part seat) (part seat).len) note) new ≡ y →

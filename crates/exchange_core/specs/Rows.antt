@@ -1,4 +1,5 @@
--- What the seats of one side show, together with the row of notes. A seat is what the core keeps of one desk.
+-- The desks' state that the seats of one side stand for, together with the row of notes. A seat is what the
+-- core stores for one desk.
 use Rattle.std.specs.Prelude.{ℕ, ◌+◌, ◌*◌, ◌/◌, ◌%◌, nat_eq, if◌then◌else◌, List, map}
 use Rattle.exchange_core.specs.declared.event.AnswerKind.{AnswerKind}
 use Rattle.exchange_core.specs.declared.event.AnswerKind.TheVariants.{Hold, Decline, Release}
@@ -25,7 +26,7 @@ rank_after held taken Hold = taken
 rank_after held taken Decline = held
 rank_after held taken Release = held
 
--- what a resident's seat, with the row of notes, says of the resident's desk
+-- the state of a resident's desk that the resident's seat and the row of notes stand for
 abbrev pub shown_resident : List ℕ → ResidentSeat → ResidentLeft
 shown_resident notes seat = record { waiting = map programme_of (waiting_in notes seat.part); due = due_of seat.first_due seat.second_due; held = seat.held; room = seat.part.room }
 
@@ -56,7 +57,7 @@ note_of answer = answer.0 * 4 + code_of answer.1
 abbrev pub answer_of : ℕ → Answered
 answer_of note = (note / 4, kind_of (note % 4))
 
--- what a programme's seat, with the row of notes, says of the programme's desk
+-- the state of a programme's desk that the programme's seat and the row of notes stand for
 abbrev pub shown_programme : List ℕ → ProgrammeSeat → ProgrammeLeft
 shown_programme notes seat = record {
   offered = seat.offered;

@@ -1,8 +1,8 @@
 //! Counts of the desks at which something is pending.
 ghost use Rattle.std.specs.Prelude.{◌≡◌, ◌+◌, ◌^◌, ◌<◌, true, if◌then◌else◌};
 
-/// The count of desks that pass a test, after one desk changed. `was` and `is` say whether this desk
-/// passed before and passes now.
+/// The count of desks that pass a test, after one desk changed. `was` says whether this desk passed
+/// before, and `is` whether it passes now.
 #[inline(always)]
 pub(crate) fn recounted(count: usize, was: bool, is: bool) -> usize
     requires counted { was ≡ true → 0 < count }

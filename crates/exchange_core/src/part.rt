@@ -30,7 +30,7 @@ impl Part {
         }
     }
 
-    /// Where in the row the note with this number stands. The front note has number 0.
+    /// The place in the row of the note with this number. The front note has number 0.
     #[inline(always)]
     fn place(self, number: u32) -> usize
         requires ring { IsRing self }
@@ -93,7 +93,8 @@ impl Part {
     }
 }
 
-/// How many messages a mailbox has room for. `most` is the number of messages that can ever be sent to the mailbox.
+/// How many messages a mailbox has room for. `most` is the greatest number of messages that can be sent to the
+/// mailbox.
 pub(crate) fn room(cap: Capacity, most: usize) -> u32
     requires { most ≤ 2 * MAX_PAIRS }
     ensures { result ≡ room_within cap most }

@@ -161,6 +161,15 @@ impl ResidentRow {
         }
     }
 
+    /// The guessed rank of the offer taken last, or 0 if there is no such resident.
+    #[inline(always)]
+    pub(crate) fn taken_rank(&self, resident: ResidentNo) -> u32 {
+        match self.seats.get(resident.0 as usize) {
+            Some(seat) => seat.taken_rank,
+            None => 0,
+        }
+    }
+
     #[inline(always)]
     pub(crate) fn receive(&mut self, resident: ResidentNo, programme: ProgrammeNo, rank: u32)
         requires member { resident < length self.old }

@@ -20,7 +20,7 @@ impl Core {
         if self.closed {
             return None;
         }
-        // Only the proof needs this call: by its clause the number of programmes is within the limits.
+        // For the proof alone: the number of programmes is within the limits.
         let _members = inst.programmes();
         if self.is_at_rest(inst) {
             return Some(Event::Close);
@@ -224,9 +224,9 @@ impl Core {
         ensures none { IfNone result (fault_left inst.now self.now event ≢ None) }
         ensures instance { IsInstance inst.now }
     {
-        let again = event;
+        let same_event = event;
         match self.fault(inst, event) {
-            None => Some(again),
+            None => Some(same_event),
             Some(_) => None,
         }
     }

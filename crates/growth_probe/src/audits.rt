@@ -4,7 +4,7 @@ ghost use Rattle.docket.specs.Whole.{IsByWorker};
 ghost use Rattle.audit_text.specs.Report.{IsReportOf};
 
 use crate::dockets::{SHEET, SMALL, docket_of, room};
-use crate::seen::{Seen, begin, end};
+use crate::outcome::{Outcome, begin, end};
 use docket::{Docket, DocketFault, Journal};
 use match_audit::{AuditFault, AuditReport, ReplayFault, Replayed, audit, check, counts, replay};
 use match_model::{ProgrammeNo, ResidentNo};
@@ -35,23 +35,23 @@ fn is_blocked(report: &AuditReport) -> bool {
 }
 
 /// Audits a sheet with a blocking pair.
-pub(super) fn audited<W: Write>(alloc: Global, out: &mut W) -> Seen {
+pub(super) fn audited<W: Write>(alloc: Global, out: &mut W) -> Outcome {
     let Some(docket) = docket_of(alloc, &[BLOCKED]) else {
-        return Seen::Wrong;
+        return Outcome::Wrong;
     };
     let Some(sheet) = docket.sheet() else {
-        return Seen::Wrong;
+        return Outcome::Wrong;
     };
     begin(out);
     let answer = audit(alloc, docket.instance(), sheet);
     end(out);
     match answer {
-        Ok(report) => Seen::at_once(is_blocked(&report)),
+        Ok(report) => Outcome::at_once(is_blocked(&report)),
         Err(AuditFault::Memory) => match audit(alloc, docket.instance(), sheet) {
-            Ok(report) => Seen::after_memory(is_blocked(&report)),
-            Err(_) => Seen::Wrong,
+            Ok(report) => Outcome::after_memory(is_blocked(&report)),
+            Err(_) => Outcome::Wrong,
         },
-        Err(_) => Seen::Wrong,
+        Err(_) => Outcome::Wrong,
     }
 }
 
@@ -71,27 +71,27 @@ fn blocked_report(alloc: Global, docket: &Docket) -> Result<AuditReport, AllocEr
 }
 
 /// Writes the report about a sheet with a blocking pair.
-pub(super) fn report<W: Write>(alloc: Global, out: &mut W) -> Seen {
+pub(super) fn report<W: Write>(alloc: Global, out: &mut W) -> Outcome {
     let (Some(docket), Ok(mut room)) = (docket_of(alloc, &[BLOCKED]), room(alloc)) else {
-        return Seen::Wrong;
+        return Outcome::Wrong;
     };
     let inst = docket.instance();
     if inst.programmes() != 1 || inst.residents() != 2 {
-        return Seen::Wrong;
+        return Outcome::Wrong;
     }
     let Ok(report) = blocked_report(alloc, &docket) else {
-        return Seen::Wrong;
+        return Outcome::Wrong;
     };
     begin(out);
     let answer = write_report(alloc, &docket, &report, &mut room);
     end(out);
     if answer == Err(DocketFault::Memory) {
         let untouched = room.is_empty() && is_blocked(&report);
-        let again = write_report(alloc, &docket, &report, &mut room);
-        let is_whole = again == Ok(()) && room.as_slice() == UNSTABLE.as_bytes();
-        return Seen::after_memory(untouched && is_whole);
+        let second_answer = write_report(alloc, &docket, &report, &mut room);
+        let is_whole = second_answer == Ok(()) && room.as_slice() == UNSTABLE.as_bytes();
+        return Outcome::after_memory(untouched && is_whole);
     }
-    Seen::at_once(answer == Ok(()) && room.as_slice() == UNSTABLE.as_bytes())
+    Outcome::at_once(answer == Ok(()) && room.as_slice() == UNSTABLE.as_bytes())
 }
 
 // Whether a replay found nine good events, which lead to the result of the small docket.
@@ -117,26 +117,26 @@ fn replay_of(alloc: Global, docket: &Docket) -> Result<Replayed, ReplayFault> {
 }
 
 /// Replays a journal.
-pub(super) fn replayed<W: Write>(alloc: Global, out: &mut W) -> Seen {
+pub(super) fn replayed<W: Write>(alloc: Global, out: &mut W) -> Outcome {
     let Some(docket) = docket_of(alloc, &[SMALL, JOURNAL]) else {
-        return Seen::Wrong;
+        return Outcome::Wrong;
     };
     begin(out);
     let answer = replay_of(alloc, &docket);
     end(out);
     if matches!(answer, Err(ReplayFault::Memory)) {
-        return Seen::after_memory(is_good(&replay_of(alloc, &docket)));
+        return Outcome::after_memory(is_good(&replay_of(alloc, &docket)));
     }
-    Seen::at_once(is_good(&answer))
+    Outcome::at_once(is_good(&answer))
 }
 
 /// Writes the answer of a replay.
-pub(super) fn answer<W: Write>(alloc: Global, out: &mut W) -> Seen {
+pub(super) fn answer<W: Write>(alloc: Global, out: &mut W) -> Outcome {
     let (Some(docket), Ok(mut room)) = (docket_of(alloc, &[SMALL, JOURNAL]), room(alloc)) else {
-        return Seen::Wrong;
+        return Outcome::Wrong;
     };
     let Ok(replayed) = replay_of(alloc, &docket) else {
-        return Seen::Wrong;
+        return Outcome::Wrong;
     };
     let good = Ok(replayed);
     begin(out);
@@ -144,14 +144,15 @@ pub(super) fn answer<W: Write>(alloc: Global, out: &mut W) -> Seen {
     end(out);
     if answer == Err(DocketFault::Memory) {
         let untouched = room.is_empty() && is_good(&good);
-        let again = write_replay(alloc, &docket, &good, None, &mut room);
-        let is_whole = again == Ok(()) && room.as_slice() == b"G,9\n".as_slice();
-        return Seen::after_memory(untouched && is_whole);
+        let second_answer = write_replay(alloc, &docket, &good, None, &mut room);
+        let is_whole = second_answer == Ok(()) && room.as_slice() == b"G,9\n".as_slice();
+        return Outcome::after_memory(untouched && is_whole);
     }
-    Seen::at_once(answer == Ok(()) && room.as_slice() == b"G,9\n".as_slice())
+    Outcome::at_once(answer == Ok(()) && room.as_slice() == b"G,9\n".as_slice())
 }
 
-// The answer of a check of the docket's journal against its sheet; `NotClosed` if one of them is missing.
+// The answer of a check of the docket's journal against its sheet; `NotClosed` if the journal or the
+// sheet is missing.
 fn check_of(alloc: Global, docket: &Docket) -> Result<Replayed, ReplayFault> {
     let (Some(journal), Some(sheet)) = (docket.journal(), docket.sheet()) else {
         return Err(ReplayFault::NotClosed);
@@ -166,21 +167,21 @@ fn differs(answer: &Result<Replayed, ReplayFault>) -> bool {
 }
 
 /// Checks a journal against another sheet, and against its own sheet.
-pub(super) fn checked<W: Write>(alloc: Global, out: &mut W) -> Seen {
+pub(super) fn checked<W: Write>(alloc: Global, out: &mut W) -> Outcome {
     let (Some(other), Some(own)) = (
         docket_of(alloc, &[SMALL, JOURNAL, OTHER_SHEET]),
         docket_of(alloc, &[SMALL, JOURNAL, SHEET]),
     ) else {
-        return Seen::Wrong;
+        return Outcome::Wrong;
     };
     begin(out);
     let answer = check_of(alloc, &other);
     end(out);
     let is_own_good = is_good(&check_of(alloc, &own));
     if matches!(answer, Err(ReplayFault::Memory)) {
-        return Seen::after_memory(is_own_good && differs(&check_of(alloc, &other)));
+        return Outcome::after_memory(is_own_good && differs(&check_of(alloc, &other)));
     }
-    Seen::at_once(is_own_good && differs(&answer))
+    Outcome::at_once(is_own_good && differs(&answer))
 }
 
 // The small docket's journal with the worker of each event. There are two workers.
@@ -198,22 +199,22 @@ fn counts_of(alloc: Global, journal: &Journal) -> Result<Vec<u64>, AuditFault>
 }
 
 /// Counts the events of two workers.
-pub(super) fn counted<W: Write>(alloc: Global, out: &mut W) -> Seen {
+pub(super) fn counted<W: Write>(alloc: Global, out: &mut W) -> Outcome {
     let Some(docket) = docket_of(alloc, &[SMALL, WORKED]) else {
-        return Seen::Wrong;
+        return Outcome::Wrong;
     };
     let Some(journal) = docket.journal() else {
-        return Seen::Wrong;
+        return Outcome::Wrong;
     };
     begin(out);
     let answer = counts_of(alloc, journal);
     end(out);
     match answer {
-        Ok(counts) => Seen::at_once(counts.as_slice() == [5, 4].as_slice()),
+        Ok(counts) => Outcome::at_once(counts.as_slice() == [5, 4].as_slice()),
         Err(AuditFault::Memory) => match counts_of(alloc, journal) {
-            Ok(counts) => Seen::after_memory(counts.as_slice() == [5, 4].as_slice()),
-            Err(_) => Seen::Wrong,
+            Ok(counts) => Outcome::after_memory(counts.as_slice() == [5, 4].as_slice()),
+            Err(_) => Outcome::Wrong,
         },
-        Err(_) => Seen::Wrong,
+        Err(_) => Outcome::Wrong,
     }
 }

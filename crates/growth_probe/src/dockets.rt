@@ -1,5 +1,5 @@
 //! The calls of `docket`.
-use crate::seen::{Seen, begin, end};
+use crate::outcome::{Outcome, begin, end};
 use docket::{
     Docket, DocketFault, read_docket, read_docket_with_lists, write_journal, write_sheet,
 };
@@ -21,7 +21,7 @@ pub(super) fn room(alloc: Global) -> Result<Vec<u8>, AllocError> {
     Vec::with_capacity(alloc, 4_096)
 }
 
-/// These texts, one after another.
+/// These texts as one text, one after another.
 pub(super) fn joined(alloc: Global, texts: &[&str]) -> Result<Vec<u8>, AllocError> {
     let mut all = Vec::new(alloc);
     for text in texts {
@@ -47,17 +47,17 @@ fn is_small(docket: &Docket) -> bool {
 }
 
 /// Reads a docket.
-pub(super) fn read<W: Write>(alloc: Global, out: &mut W) -> Seen {
+pub(super) fn read<W: Write>(alloc: Global, out: &mut W) -> Outcome {
     begin(out);
     let answer = read_docket(&OneByte(7), alloc, SMALL.as_bytes());
     end(out);
     match answer {
-        Ok(docket) => Seen::at_once(is_small(&docket)),
+        Ok(docket) => Outcome::at_once(is_small(&docket)),
         Err(DocketFault::Memory) => match read_docket(&OneByte(7), alloc, SMALL.as_bytes()) {
-            Ok(docket) => Seen::after_memory(is_small(&docket)),
-            Err(_) => Seen::Wrong,
+            Ok(docket) => Outcome::after_memory(is_small(&docket)),
+            Err(_) => Outcome::Wrong,
         },
-        Err(_) => Seen::Wrong,
+        Err(_) => Outcome::Wrong,
     }
 }
 
@@ -67,51 +67,51 @@ fn is_small_with_lists(docket: &Docket, lists: &WrittenLists) -> bool {
 }
 
 /// Reads a docket with its lists.
-pub(super) fn read_with_lists<W: Write>(alloc: Global, out: &mut W) -> Seen {
+pub(super) fn read_with_lists<W: Write>(alloc: Global, out: &mut W) -> Outcome {
     begin(out);
     let answer = read_docket_with_lists(&OneByte(7), alloc, SMALL.as_bytes());
     end(out);
     match answer {
-        Ok((docket, lists)) => Seen::at_once(is_small_with_lists(&docket, &lists)),
+        Ok((docket, lists)) => Outcome::at_once(is_small_with_lists(&docket, &lists)),
         Err(DocketFault::Memory) => {
             match read_docket_with_lists(&OneByte(7), alloc, SMALL.as_bytes()) {
-                Ok((docket, lists)) => Seen::after_memory(is_small_with_lists(&docket, &lists)),
-                Err(_) => Seen::Wrong,
+                Ok((docket, lists)) => Outcome::after_memory(is_small_with_lists(&docket, &lists)),
+                Err(_) => Outcome::Wrong,
             }
         }
-        Err(_) => Seen::Wrong,
+        Err(_) => Outcome::Wrong,
     }
 }
 
 /// Writes a sheet.
-pub(super) fn sheet<W: Write>(alloc: Global, out: &mut W) -> Seen {
+pub(super) fn sheet<W: Write>(alloc: Global, out: &mut W) -> Outcome {
     let (Some(docket), Ok(mut room)) = (docket_of(alloc, &[SMALL, SHEET]), room(alloc)) else {
-        return Seen::Wrong;
+        return Outcome::Wrong;
     };
     let Some(sheet) = docket.sheet() else {
-        return Seen::Wrong;
+        return Outcome::Wrong;
     };
     begin(out);
     let answer = write_sheet(alloc, &docket, sheet, &mut room);
     end(out);
     if answer == Err(DocketFault::Memory) {
         let untouched = room.is_empty() && is_small(&docket);
-        let again = write_sheet(alloc, &docket, sheet, &mut room);
-        let is_whole = again == Ok(()) && room.as_slice() == SHEET.as_bytes();
-        return Seen::after_memory(untouched && is_whole);
+        let second_answer = write_sheet(alloc, &docket, sheet, &mut room);
+        let is_whole = second_answer == Ok(()) && room.as_slice() == SHEET.as_bytes();
+        return Outcome::after_memory(untouched && is_whole);
     }
-    Seen::at_once(answer == Ok(()) && room.as_slice() == SHEET.as_bytes())
+    Outcome::at_once(answer == Ok(()) && room.as_slice() == SHEET.as_bytes())
 }
 
 const CLOSED: &str = "C,full\nE,close\n";
 
 /// Writes a journal.
-pub(super) fn journal<W: Write>(alloc: Global, out: &mut W) -> Seen {
+pub(super) fn journal<W: Write>(alloc: Global, out: &mut W) -> Outcome {
     let (Some(docket), Ok(mut room)) = (docket_of(alloc, &[CLOSED]), room(alloc)) else {
-        return Seen::Wrong;
+        return Outcome::Wrong;
     };
     let Some(journal) = docket.journal() else {
-        return Seen::Wrong;
+        return Outcome::Wrong;
     };
     let events = journal.events.as_slice();
     begin(out);
@@ -119,9 +119,16 @@ pub(super) fn journal<W: Write>(alloc: Global, out: &mut W) -> Seen {
     end(out);
     if answer == Err(DocketFault::Memory) {
         let untouched = room.is_empty() && events.len() == 1;
-        let again = write_journal(alloc, &docket, journal.capacity, events, None, &mut room);
-        let is_whole = again == Ok(()) && room.as_slice() == CLOSED.as_bytes();
-        return Seen::after_memory(untouched && is_whole);
+        let second_answer = write_journal(
+            alloc,
+            &docket,
+            journal.capacity,
+            events,
+            None,
+            &mut room,
+        );
+        let is_whole = second_answer == Ok(()) && room.as_slice() == CLOSED.as_bytes();
+        return Outcome::after_memory(untouched && is_whole);
     }
-    Seen::at_once(answer == Ok(()) && room.as_slice() == CLOSED.as_bytes())
+    Outcome::at_once(answer == Ok(()) && room.as_slice() == CLOSED.as_bytes())
 }

@@ -3,7 +3,7 @@ ghost use Rattle.std.specs.Prelude.{◌≡◌, [], IfOk};
 ghost use Rattle.exchange_core.specs.Steps.{IsCoreOf};
 
 use crate::dockets::{SMALL, docket_of};
-use crate::seen::{Seen, begin, end};
+use crate::outcome::{Outcome, begin, end};
 use exchange_core::{AnswerNote, Capacity, Core, CoreFault, OfferNote, Refused};
 use mailbox_rule::{
     ListPut, ListTake, MailFault, PutEnd, PutReply, RuledPut, RuledTake, TakeEnd, TakeReply,
@@ -26,25 +26,25 @@ fn refuses_a_stranger(mut core: Core, inst: &Instance) -> bool
 }
 
 /// Opens a core.
-pub(super) fn core<W: Write>(alloc: Global, out: &mut W) -> Seen {
+pub(super) fn core<W: Write>(alloc: Global, out: &mut W) -> Outcome {
     let Some(docket) = docket_of(alloc, &[SMALL]) else {
-        return Seen::Wrong;
+        return Outcome::Wrong;
     };
     let inst = docket.instance();
     begin(out);
     let answer = Core::new(alloc, inst, Capacity::Full);
     end(out);
     match answer {
-        Ok(core) => Seen::at_once(refuses_a_stranger(core, inst)),
+        Ok(core) => Outcome::at_once(refuses_a_stranger(core, inst)),
         Err(CoreFault::Memory) => match Core::new(alloc, inst, Capacity::Full) {
-            Ok(core) => Seen::after_memory(refuses_a_stranger(core, inst)),
-            Err(_) => Seen::Wrong,
+            Ok(core) => Outcome::after_memory(refuses_a_stranger(core, inst)),
+            Err(_) => Outcome::Wrong,
         },
-        Err(_) => Seen::Wrong,
+        Err(_) => Outcome::Wrong,
     }
 }
 
-// Whether a mailbox with room for two messages accepts two messages and returns the first.
+// Whether the mailbox accepts two messages and returns the first.
 fn has_two_places<R: Wait + Copy>(mut put: RuledPut<u32, R>, mut take: RuledTake<u32, R>) -> bool {
     put.put(5) == PutReply::Done
         && put.put(6) == PutReply::Done
@@ -59,37 +59,37 @@ pub(super) fn mailbox_of_two<R: Wait + Copy + Drop, W: Write>(
     rt: R,
     alloc: Global,
     out: &mut W,
-) -> Seen {
+) -> Outcome {
     begin(out);
     let answer = mailbox::<u32, R>(alloc, rt, 2);
     end(out);
     match answer {
-        Ok((put, take)) => Seen::at_once(has_two_places(put, take)),
+        Ok((put, take)) => Outcome::at_once(has_two_places(put, take)),
         Err(MailFault::Memory) => match mailbox::<u32, R>(alloc, rt, 2) {
-            Ok((put, take)) => Seen::after_memory(has_two_places(put, take)),
-            Err(_) => Seen::Wrong,
+            Ok((put, take)) => Outcome::after_memory(has_two_places(put, take)),
+            Err(_) => Outcome::Wrong,
         },
-        Err(_) => Seen::Wrong,
+        Err(_) => Outcome::Wrong,
     }
 }
 
-// Whether a list with room for one message accepts one message and refuses a second.
+// Whether the list accepts one message and refuses a second.
 fn has_one_place(mut list: ListPut<u32>) -> bool {
     list.put(5) == PutReply::Done && list.put(6) == PutReply::Full(6)
 }
 
 /// Opens a list with room for one message.
-pub(super) fn list_put<W: Write>(alloc: Global, out: &mut W) -> Seen {
+pub(super) fn list_put<W: Write>(alloc: Global, out: &mut W) -> Outcome {
     begin(out);
     let answer = ListPut::with_room(alloc, 1);
     end(out);
     match answer {
-        Ok(list) => Seen::at_once(has_one_place(list)),
+        Ok(list) => Outcome::at_once(has_one_place(list)),
         Err(MailFault::Memory) => match ListPut::with_room(alloc, 1) {
-            Ok(list) => Seen::after_memory(has_one_place(list)),
-            Err(_) => Seen::Wrong,
+            Ok(list) => Outcome::after_memory(has_one_place(list)),
+            Err(_) => Outcome::Wrong,
         },
-        Err(_) => Seen::Wrong,
+        Err(_) => Outcome::Wrong,
     }
 }
 
@@ -124,22 +124,22 @@ fn hears_two<T: TakeEnd<AnswerNote>>(agent: &mut ProgrammeAgent<T>) -> bool {
 }
 
 /// Opens a programme's agent over an end with two answers.
-pub(super) fn programme_agent<W: Write>(alloc: Global, out: &mut W) -> Seen {
+pub(super) fn programme_agent<W: Write>(alloc: Global, out: &mut W) -> Outcome {
     let (Some(docket), Ok(waiting)) = (docket_of(alloc, &[QUOTAS]), answers(alloc)) else {
-        return Seen::Wrong;
+        return Outcome::Wrong;
     };
     let inst = docket.instance();
     if inst.programmes() != 2 {
-        return Seen::Wrong;
+        return Outcome::Wrong;
     }
     begin(out);
     let answer = ProgrammeAgent::open(alloc, inst, A, waiting);
     end(out);
     match answer {
-        Ok(mut agent) => Seen::at_once(hears_two(&mut agent)),
+        Ok(mut agent) => Outcome::at_once(hears_two(&mut agent)),
         Err(refused) => match ProgrammeAgent::open(alloc, inst, A, refused.end) {
-            Ok(mut agent) => Seen::after_memory(hears_two(&mut agent)),
-            Err(_) => Seen::Wrong,
+            Ok(mut agent) => Outcome::after_memory(hears_two(&mut agent)),
+            Err(_) => Outcome::Wrong,
         },
     }
 }
@@ -160,27 +160,27 @@ fn takes_one<T: TakeEnd<OfferNote>>(agent: &mut ResidentAgent<T>) -> bool {
 }
 
 /// Opens a resident's agent over an end with two offers.
-pub(super) fn resident_agent<W: Write>(alloc: Global, out: &mut W) -> Seen {
+pub(super) fn resident_agent<W: Write>(alloc: Global, out: &mut W) -> Outcome {
     let (Some(docket), Ok(waiting)) = (docket_of(alloc, &[QUOTAS]), offers(alloc)) else {
-        return Seen::Wrong;
+        return Outcome::Wrong;
     };
     let inst = docket.instance();
     if inst.residents() != 3 {
-        return Seen::Wrong;
+        return Outcome::Wrong;
     }
     begin(out);
     let answer = ResidentAgent::open(alloc, inst, X, waiting);
     end(out);
     match answer {
-        Ok(mut agent) => Seen::at_once(takes_one(&mut agent)),
+        Ok(mut agent) => Outcome::at_once(takes_one(&mut agent)),
         Err(refused) => match ResidentAgent::open(alloc, inst, X, refused.end) {
-            Ok(mut agent) => Seen::after_memory(takes_one(&mut agent)),
-            Err(_) => Seen::Wrong,
+            Ok(mut agent) => Outcome::after_memory(takes_one(&mut agent)),
+            Err(_) => Outcome::Wrong,
         },
     }
 }
 
-// Whether a run with three residents closed with each of them matched as expected, or the run's fault.
+// Whether a run with three residents closed with the expected matches, or the run's fault.
 fn closes<R: Threads + Wait + Sync + Send + Copy>(
     rt: R,
     alloc: Global,
@@ -205,9 +205,9 @@ pub(super) fn whole_run<R: Threads + Wait + Sync + Send + Copy, W: Write>(
     rt: R,
     alloc: Global,
     out: &mut W,
-) -> Seen {
+) -> Outcome {
     let Some(docket) = docket_of(alloc, &[QUOTAS]) else {
-        return Seen::Wrong;
+        return Outcome::Wrong;
     };
     let inst = docket.instance();
     begin(out);
@@ -215,12 +215,12 @@ pub(super) fn whole_run<R: Threads + Wait + Sync + Send + Copy, W: Write>(
     end(out);
     let is_memory = answer == Err(RunFault::Memory);
     if !is_memory && answer != Err(RunFault::Thread) {
-        return Seen::at_once(answer == Ok(true));
+        return Outcome::at_once(answer == Ok(true));
     }
-    let again = closes(rt, alloc, inst) == Ok(true);
+    let second_is_right = closes(rt, alloc, inst) == Ok(true);
     if is_memory {
-        Seen::after_memory(again)
+        Outcome::after_memory(second_is_right)
     } else {
-        Seen::after_thread(again)
+        Outcome::after_thread(second_is_right)
     }
 }

@@ -4,7 +4,7 @@ ghost use Rattle.mailbox_rule.specs.Lists.{PutList};
 ghost use Rattle.exchange_core.specs.Mail.{Answered};
 
 use crate::dockets::{SMALL, docket_of};
-use crate::seen::{Seen, begin, end};
+use crate::outcome::{Outcome, begin, end};
 use exchange_core::{AnswerNote, Capacity, OfferNote};
 use mailbox_rule::{ListPut, MailFault, PutEnd};
 use match_model::Instance;
@@ -84,23 +84,23 @@ fn opened_anew(alloc: Global, inst: &Instance, ends: Ends) -> Result<bool, (Ledg
 }
 
 /// Opens a ledger of the small docket, over ends without room.
-pub(super) fn opened<W: Write>(alloc: Global, out: &mut W) -> Seen {
+pub(super) fn opened<W: Write>(alloc: Global, out: &mut W) -> Outcome {
     let (Some(docket), Ok(offer_ends), Ok(answer_ends)) = (
         docket_of(alloc, &[SMALL]),
         lists::<OfferNote>(alloc),
         lists::<AnswerNote>(alloc),
     ) else {
-        return Seen::Wrong;
+        return Outcome::Wrong;
     };
     begin(out);
     let answer = opened_anew(alloc, docket.instance(), (offer_ends, answer_ends));
     end(out);
     match answer {
-        Ok(is_right) => Seen::at_once(is_right),
+        Ok(is_right) => Outcome::at_once(is_right),
         Err((LedgerFault::Memory, ends)) => {
-            let again = opened_anew(alloc, docket.instance(), ends);
-            Seen::after_memory(matches!(again, Ok(true)))
+            let second_answer = opened_anew(alloc, docket.instance(), ends);
+            Outcome::after_memory(matches!(second_answer, Ok(true)))
         }
-        Err(_) => Seen::Wrong,
+        Err(_) => Outcome::Wrong,
     }
 }

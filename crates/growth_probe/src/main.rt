@@ -9,10 +9,10 @@ mod builder;
 mod dockets;
 mod exchange;
 mod ledger;
-mod seen;
+mod outcome;
 mod serving;
 
-use seen::Seen;
+use outcome::Outcome;
 use std::alloc::Global;
 use std::io::Write;
 use std::process::ExitCode;
@@ -59,7 +59,7 @@ fn made<H: Threads + Wait + RandomSource + Sync + Send + Copy + Drop, W: Write>(
     alloc: Global,
     name: &str,
     out: &mut W,
-) -> Seen {
+) -> Outcome {
     match name {
         "add_programme" => builder::add_programme(alloc, out),
         "add_resident" => builder::add_resident(alloc, out),
@@ -94,16 +94,17 @@ fn words(rt: &HostRuntime) -> io::Result<Vec<String>> {
     Ok(env::args(rt)?.skip(1).collect(rt.alloc())?)
 }
 
-// Makes the call with this name, and prints what the call did. Returns whether this was right.
-fn told<H: Threads + Wait + RandomSource + Sync + Send + Copy + Drop, W: Write>(
+// Makes the call with this name, and prints what the call did. Returns whether the call did what it
+// should.
+fn call_and_print<H: Threads + Wait + RandomSource + Sync + Send + Copy + Drop, W: Write>(
     rt: H,
     alloc: Global,
     name: &str,
     out: &mut W,
 ) -> bool {
-    let seen = made(rt, alloc, name, out);
-    let text = seen.text();
-    writeln!(out, "{name} {text}").is_ok() && seen != Seen::Wrong
+    let outcome = made(rt, alloc, name, out);
+    let text = outcome.text();
+    writeln!(out, "{name} {text}").is_ok() && outcome != Outcome::Wrong
 }
 
 fn main(rt: HostRuntime) -> ExitCode {
@@ -114,10 +115,10 @@ fn main(rt: HostRuntime) -> ExitCode {
     let out = &mut io::writer(&rt);
     let mut are_right = true;
     match words.first() {
-        Some(name) => are_right = told(rt, alloc, name.as_str(), out),
+        Some(name) => are_right = call_and_print(rt, alloc, name.as_str(), out),
         None => {
             for name in CALLS {
-                are_right = told(rt, alloc, name, out) && are_right;
+                are_right = call_and_print(rt, alloc, name, out) && are_right;
             }
         }
     }

@@ -1,6 +1,6 @@
 //! The calls of `residency`.
 use crate::dockets::{SHEET, SMALL, joined, room};
-use crate::seen::{Seen, begin, end};
+use crate::outcome::{Outcome, begin, end};
 use docket::DocketFault;
 use match_pool::{OpenGate, RunFault};
 use residency::{
@@ -64,47 +64,47 @@ impl Trial<'_> {
         *answer == Ok(self.status) && written == self.text.as_bytes()
     }
 
-    fn seen<H: Threads + Wait + RandomSource + Sync + Send + Copy, W: Write>(
+    fn outcome<H: Threads + Wait + RandomSource + Sync + Send + Copy, W: Write>(
         &self,
         rt: H,
         alloc: Global,
         out: &mut W,
-    ) -> Seen {
+    ) -> Outcome {
         let Ok(mut room) = room(alloc) else {
-            return Seen::Wrong;
+            return Outcome::Wrong;
         };
         begin(out);
         let answer = self.serve(rt, alloc, &mut room);
         end(out);
         let is_thread = matches!(answer, Err(ServeFault::Run(RunFault::Thread)));
         if !is_thread && !is_memory(&answer) {
-            return Seen::at_once(self.is_served(&answer, room.as_slice()));
+            return Outcome::at_once(self.is_served(&answer, room.as_slice()));
         }
         let untouched = room.is_empty();
-        let again = self.serve(rt, alloc, &mut room);
-        if !untouched || !self.is_served(&again, room.as_slice()) {
-            Seen::Wrong
+        let second_answer = self.serve(rt, alloc, &mut room);
+        if !untouched || !self.is_served(&second_answer, room.as_slice()) {
+            Outcome::Wrong
         } else if is_thread {
-            Seen::WantedThread
+            Outcome::WantedThread
         } else {
-            Seen::WantedMemory
+            Outcome::WantedMemory
         }
     }
 }
 
 // Reads a command line that has a wrong number of workers.
-fn line<W: Write>(alloc: Global, out: &mut W) -> Seen {
+fn line<W: Write>(alloc: Global, out: &mut W) -> Outcome {
     let words = ["match", "--workers", "9"];
     begin(out);
     let answer = read_line(alloc, &words);
     end(out);
     match answer {
         Err(LineFault::Memory) => match read_line(alloc, &words) {
-            Err(fault) => Seen::after_memory(line_status(&fault) == 2),
-            Ok(_) => Seen::Wrong,
+            Err(fault) => Outcome::after_memory(line_status(&fault) == 2),
+            Ok(_) => Outcome::Wrong,
         },
-        Err(fault) => Seen::at_once(line_status(&fault) == 2),
-        Ok(_) => Seen::Wrong,
+        Err(fault) => Outcome::at_once(line_status(&fault) == 2),
+        Ok(_) => Outcome::Wrong,
     }
 }
 
@@ -113,14 +113,14 @@ fn matched<H: Threads + Wait + RandomSource + Sync + Send + Copy, W: Write>(
     rt: H,
     alloc: Global,
     out: &mut W,
-) -> Seen {
+) -> Outcome {
     let trial = Trial {
         order: Order::Match(MatchOptions::default()),
         input: SMALL.as_bytes(),
         status: Status::Closed,
         text: SHEET,
     };
-    trial.seen(rt, alloc, out)
+    trial.outcome(rt, alloc, out)
 }
 
 // Audits a sheet with a blocking pair.
@@ -128,14 +128,14 @@ fn audited<H: Threads + Wait + RandomSource + Sync + Send + Copy, W: Write>(
     rt: H,
     alloc: Global,
     out: &mut W,
-) -> Seen {
+) -> Outcome {
     let trial = Trial {
         order: Order::Audit,
         input: BLOCKED.as_bytes(),
         status: Status::Unstable,
         text: "S,unstable\nB,y,a\n",
     };
-    trial.seen(rt, alloc, out)
+    trial.outcome(rt, alloc, out)
 }
 
 // Replays nineteen events from these bytes.
@@ -144,14 +144,14 @@ fn replayed<H: Threads + Wait + RandomSource + Sync + Send + Copy, W: Write>(
     alloc: Global,
     nineteen: &[u8],
     out: &mut W,
-) -> Seen {
+) -> Outcome {
     let trial = Trial {
         order: Order::Replay,
         input: nineteen,
         status: Status::ReplayGood,
         text: "G,19\n",
     };
-    trial.seen(rt, alloc, out)
+    trial.outcome(rt, alloc, out)
 }
 
 /// Makes the call with this name. The result is wrong if there is no such call.
@@ -160,15 +160,15 @@ pub(super) fn made<H: Threads + Wait + RandomSource + Sync + Send + Copy, W: Wri
     alloc: Global,
     name: &str,
     out: &mut W,
-) -> Seen {
+) -> Outcome {
     match name {
         "serve_match" => matched(rt, alloc, out),
         "serve_audit" => audited(rt, alloc, out),
         "serve_replay" => match joined(alloc, &NINETEEN) {
             Ok(nineteen) => replayed(rt, alloc, nineteen.as_slice(), out),
-            Err(_) => Seen::Wrong,
+            Err(_) => Outcome::Wrong,
         },
         "read_line" => line(alloc, out),
-        _ => Seen::Wrong,
+        _ => Outcome::Wrong,
     }
 }

@@ -15,7 +15,7 @@ use std::test::Fail;
 use test_support::events::{A, B, HOLD, RELEASE, X, Y, Z};
 use test_support::instances::{TWO_PLACES, made};
 
-// What a resident's agent answers to a take, and which two answers it gives afterwards.
+// What a resident's agent takes out of its mailbox, and the two answers that it then gives.
 type Taken = (
     Option<Heard<OfferNote>>,
     [Option<(ProgrammeNo, AnswerKind)>; 2],
@@ -90,7 +90,8 @@ const ANSWERS: [AnswerNote; 3] = [
     },
 ];
 
-// Whether the desk hears these answers and then gets the reply `last`, and then has the expected log.
+// Whether the desk hears these answers, gets the reply `last` at the next look, and then has the
+// expected log.
 fn hears_so<T: TakeEnd<AnswerNote> + Drop>(
     run: &mut ProgrammeRun<T>,
     answers: &[AnswerNote],
@@ -124,7 +125,7 @@ fn programme_hears<T: TakeEnd<AnswerNote> + Drop>(
     end: T,
     answers: &[AnswerNote],
     last: Heard<AnswerNote>,
-    after: &[Option<ResidentNo>],
+    later_offers: &[Option<ResidentNo>],
 ) -> bool
     requires { T.taken end ≡ [] }
 {
@@ -136,7 +137,7 @@ fn programme_hears<T: TakeEnd<AnswerNote> + Drop>(
     };
     offers_so(&mut run, &[Some(X), Some(Y), None])
         && hears_so(&mut run, answers, last)
-        && offers_so(&mut run, after)
+        && offers_so(&mut run, later_offers)
 }
 
 #[test]

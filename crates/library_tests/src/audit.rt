@@ -124,8 +124,8 @@ fn replayed(
     }
 }
 
-// How many events a replay enters, or its fault, for the first `count` of the nineteen events, followed by these
-// events.
+// How many events a replay enters, or its fault, if it gets the first `count` of the nineteen events, followed
+// by the events `more`.
 fn replayed_after(alloc: Global, count: usize, more: &[Event]) -> Result<usize, ReplayFault> {
     let events = nineteen_events();
     let Ok(events) = joined(alloc, &[&events[..count.min(19)], more]) else {
@@ -190,7 +190,7 @@ fn replays_under_a_capacity(rt: HostRuntime) {
     }
 }
 
-// Those of the events that have these indices, in the order of the indices.
+// The events with these indices, in the order of the indices.
 fn chosen(alloc: Global, events: &[Event], places: &[usize]) -> Result<Vec<Event>, AllocError> {
     let mut chosen = Vec::new(alloc);
     for place in places {
@@ -257,7 +257,7 @@ fn sees_forged_lists(rt: HostRuntime) -> Result<(), Fail> {
     Ok(())
 }
 
-// How many events a replay enters that compares its result with this sheet, or its fault.
+// How many events a replay enters whose result is compared with this sheet, or its fault.
 fn checked(
     alloc: Global,
     members: Members,

@@ -67,6 +67,33 @@ fn refuses(
     }
 }
 
+// Whether the core accepts these events, and then has this rank of the offer that X took last.
+fn takes_last(run: &mut Run, events: &[Event], rank: u32) -> bool {
+    for event in events {
+        if run.step(*event).is_err() {
+            return false;
+        }
+    }
+    run.core.taken_rank(X) == rank
+}
+
+// Whether a new core accepts these events, and then has this rank of the offer that X took last.
+fn takes(alloc: Global, events: &[Event], rank: u32) -> bool {
+    match begin(alloc, TWO_PLACES, Capacity::Full) {
+        Ok(mut run) => takes_last(&mut run, events, rank),
+        Err(_) => false,
+    }
+}
+
+#[test]
+fn knows_the_rank_taken_last(rt: HostRuntime) {
+    let all = nineteen_events();
+    for (count, rank) in [(3, 0), (4, 1), (8, 0)] {
+        let events = &all[..count.min(19)];
+        assert!(rt; takes(rt.alloc(), events, rank), "{count}");
+    }
+}
+
 const LARGE: (Members, Capacity) = (TWO_PLACES, Capacity::Full);
 
 const NARROW: (Members, Capacity) = (TWO_PLACES, Capacity::Each(1));
@@ -116,8 +143,8 @@ const NO_PLACE: Option<Refused> = Some(Refused::NoPlace);
 
 const WRONG_FRONT: Option<Refused> = Some(Refused::WrongFront);
 
-// For each of the nineteen events, another event that is tried after it, and the cause for which that event may not
-// follow, if it may not.
+// For each of the nineteen events, another event that is tried after it, and the cause that refuses this other
+// event, or none.
 fn others() -> [(Event, Option<Refused>); 19] {
     [
         (offer(A, Y), None),
@@ -165,16 +192,16 @@ const SEEN: [Seen; 19] = [
     (None, None, Some(B), None),
 ];
 
-// Whether the core answers as expected to the other event, shows what is expected of A and X, and is closed or not as
-// expected.
-fn shows(run: &Run, other: &(Event, Option<Refused>), seen: &Seen, is_closed: bool) -> bool {
-    run.may(other.0).err() == other.1
+// Whether the core answers as expected to the other event, shows what it should of A and X, and is closed exactly if
+// it should be.
+fn shows(run: &Run, other_event: &(Event, Option<Refused>), seen: &Seen, is_closed: bool) -> bool {
+    run.may(other_event.0).err() == other_event.1
         && run.seen(A, X) == *seen
         && run.core.is_closed() == is_closed
 }
 
-// The number of the first of the nineteen events, from 1, that the core doesn't accept, or after which it doesn't
-// show what is expected.
+// The number, from 1, of the first of the nineteen events that the core refuses, or after which it doesn't show
+// what it should.
 fn first_wrong(run: &mut Run) -> Option<usize> {
     let (events, others) = (nineteen_events(), others());
     for at in 0..19_usize {
@@ -190,8 +217,8 @@ fn shows_what_is_left(rt: HostRuntime) {
     let mut is_right = false;
     if let Ok(mut run) = begin(rt.alloc(), TWO_PLACES, Capacity::Full) {
         assert!(rt; first_wrong(&mut run) == None);
-        let given = run.given(rt.alloc());
-        is_right = given.is_ok_and(|given| has_places(&given, &[Some(1), Some(0), Some(0)]));
+        let places = run.assignment(rt.alloc());
+        is_right = places.is_ok_and(|places| has_places(&places, &[Some(1), Some(0), Some(0)]));
     }
     assert!(rt; is_right);
 }
@@ -244,9 +271,9 @@ fn events(alloc: Global, inst: &Instance) -> Result<Vec<Event>, AllocError> {
 // Whether the core and the slow definitions agree about this event: that it may follow the earlier events, or for
 // which cause it may not.
 fn agrees_on_one(run: &Run, cap: Capacity, earlier: &[Event], event: Event) -> bool {
-    let again = event;
+    let same_event = event;
     let slow = slow::refusal(&run.inst, cap, earlier, event);
-    slow::is_same(run.may(again), slow)
+    slow::is_same(run.may(same_event), slow)
 }
 
 // Whether the core and the slow definitions agree about each of these events after the earlier events.

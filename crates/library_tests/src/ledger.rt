@@ -54,7 +54,7 @@ fn mailboxes<M: Copy + Eq + Drop, R: Wait + Copy + Drop>(
     Ok((puts, takes))
 }
 
-// Enters an event by the ledger's call for this kind of event.
+// Enters an event with the ledger's call for events of its kind.
 fn enter<J: ExchangeIdentity, P: PutEnd<OfferNote>, Q: PutEnd<AnswerNote>>(
     ledger: &mut Ledger<J, P, Q>,
     inst: &Instance,
@@ -86,7 +86,7 @@ fn enter<J: ExchangeIdentity, P: PutEnd<OfferNote>, Q: PutEnd<AnswerNote>>(
     }
 }
 
-// Whether the ledger answers each event as expected.
+// Whether the ledger gives this answer to each of these events.
 fn answers_each<J: ExchangeIdentity, P: PutEnd<OfferNote>, Q: PutEnd<AnswerNote>>(
     ledger: &mut Ledger<J, P, Q>,
     inst: &Instance,
@@ -103,7 +103,8 @@ fn answers_each<J: ExchangeIdentity, P: PutEnd<OfferNote>, Q: PutEnd<AnswerNote>
     are_right
 }
 
-// Whether the journal has exactly these events, and the tally, which has all parts of the count, counts them.
+// Whether the journal has exactly these events, and the tally counts all of them. The tally has all parts of
+// the count.
 fn shows<J: ExchangeIdentity, P: PutEnd<OfferNote>, Q: PutEnd<AnswerNote>>(
     ledger: &mut Ledger<J, P, Q>,
     tally: &mut Tally<J>,
@@ -114,7 +115,7 @@ fn shows<J: ExchangeIdentity, P: PutEnd<OfferNote>, Q: PutEnd<AnswerNote>>(
         && tally.entered() == events.len() as u64
 }
 
-// Whether the ledger enters all events one after another, refuses a second close, and then has these events as its
+// Whether the ledger enters all these events, refuses a second close, and then has exactly these events in its
 // journal.
 fn enters_all<J: ExchangeIdentity, P: PutEnd<OfferNote> + Drop, Q: PutEnd<AnswerNote> + Drop>(
     mut ledger: Ledger<J, P, Q>,
@@ -149,30 +150,38 @@ fn enters_nothing<J: ExchangeIdentity, P: PutEnd<OfferNote>, Q: PutEnd<AnswerNot
 }
 
 // Whether the first of two tallies has all parts of the count except one, and the other has this one part.
-fn are_cut<J: ExchangeIdentity>(first: &Tally<J>, other: &Tally<J>) -> bool {
-    (first.worker(), first.parts(), first.entered()) == (0, PARTS - 1, 0)
-        && (other.worker(), other.parts(), other.entered()) == (1, 1, 0)
+fn are_cut<J: ExchangeIdentity>(first_tally: &Tally<J>, other_tally: &Tally<J>) -> bool {
+    (
+        first_tally.worker(),
+        first_tally.parts(),
+        first_tally.entered(),
+    ) == (0, PARTS - 1, 0)
+        && (
+            other_tally.worker(),
+            other_tally.parts(),
+            other_tally.entered(),
+        ) == (1, 1, 0)
 }
 
-// Whether the tallies of two workers each count the worker's own entries and together all entries, and the worker
-// of each event is noted.
+// Whether the tallies of two workers each count this worker's entries, together count all entries, and the ledger
+// notes the worker of each event.
 fn counts_apart<J: ExchangeIdentity, P: PutEnd<OfferNote>, Q: PutEnd<AnswerNote>>(
     ledger: &mut Ledger<J, P, Q>,
     inst: &Instance,
     tally: &mut Tally<J>,
-    other: Tally<J>,
+    other_tally: Tally<J>,
 ) -> bool
     requires { inst.now ≡ J.inst }
 {
-    let mut other = other;
+    let mut other_tally = other_tally;
     let all = nine_events();
-    let (first, rest) = all.split_at(5);
-    let are_right = are_cut(tally, &other)
-        && answers_each(ledger, inst, tally, first, Ok(()))
-        && answers_each(ledger, inst, &mut other, rest, Ok(()))
+    let (first_events, later_events) = all.split_at(5);
+    let are_right = are_cut(tally, &other_tally)
+        && answers_each(ledger, inst, tally, first_events, Ok(()))
+        && answers_each(ledger, inst, &mut other_tally, later_events, Ok(()))
         && tally.entered() == 5
-        && other.entered() == 4;
-    tally.join(other);
+        && other_tally.entered() == 4;
+    tally.join(other_tally);
     are_right
         && shows(ledger, tally, &all)
         && ledger.who() == [0, 0, 0, 0, 0, 1, 1, 1, 1].as_slice()
@@ -180,7 +189,7 @@ fn counts_apart<J: ExchangeIdentity, P: PutEnd<OfferNote>, Q: PutEnd<AnswerNote>
         && tally.parts() == PARTS
 }
 
-// Whether a spoiled ledger still has its journal, and enters no further event.
+// Whether a ledger still has its journal after it was spoiled, and then enters no event.
 fn keeps_its_journal<J: ExchangeIdentity, P: PutEnd<OfferNote>, Q: PutEnd<AnswerNote>>(
     ledger: &mut Ledger<J, P, Q>,
     inst: &Instance,
@@ -198,7 +207,7 @@ fn keeps_its_journal<J: ExchangeIdentity, P: PutEnd<OfferNote>, Q: PutEnd<Answer
         && shows(ledger, tally, five)
 }
 
-// What is tried with a ledger over ends in memory.
+// What a test does with a ledger over ends in memory.
 #[derive(Clone, Copy)]
 enum Trial {
     All,
@@ -207,8 +216,8 @@ enum Trial {
     Spoiled,
 }
 
-// Whether a ledger does what is expected in this trial. Its ends are lists in memory, two for each side, each with
-// room for `room` notes.
+// Whether a ledger does what it should in this trial. The ledger's ends are lists in memory, two for each side,
+// each with room for `room` notes.
 fn does<J: ExchangeIdentity>(
     alloc: Global,
     blank: Blank,
@@ -251,7 +260,7 @@ fn does<J: ExchangeIdentity>(
     }
 }
 
-// Whether a ledger of two programmes and two residents does what is expected in this trial, over ends with room for
+// Whether a ledger of two programmes and two residents does what it should in this trial, over ends with room for
 // `room` notes.
 fn small_does(alloc: Global, workers: u32, room: u32, trial: Trial) -> Result<bool, MailFault> {
     let Ok(inst) = made(alloc, TWO_BY_TWO) else {
@@ -329,7 +338,8 @@ fn over_mailboxes(rt: HostRuntime) -> Result<(), Fail> {
     Ok(())
 }
 
-// Why no ledger is opened over these ends, and how many ends come back. There are two ends for programmes.
+// The fault of opening a ledger with this number of ends for residents and two ends for programmes, and
+// how many ends come back.
 fn not_opened<J: ExchangeIdentity>(
     alloc: Global,
     blank: Blank,

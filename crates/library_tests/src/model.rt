@@ -68,7 +68,7 @@ fn two_and_three(alloc: Global) -> Result<InstanceBuilder, ModelFault> {
     Ok(builder)
 }
 
-// An instance in which a programme and two residents list each other and others, so that it has only the mutual parts
+// The instance of a programme and two residents who list each other and further members. It has only the mutual parts
 // of these lists.
 fn mutual_parts(alloc: Global) -> Result<Instance, ModelFault> {
     let mut builder = two_and_three(alloc)?;
@@ -179,15 +179,15 @@ fn reads_the_list_of_whoever_is_withdrawn(rt: HostRuntime) -> Result<(), Fail> {
 }
 
 // Two programmes and three residents with all their lists. These members are withdrawn before the lists are given if
-// `first` is set, else after it.
+// `withdraws_first` is set, else afterwards.
 fn without(
     alloc: Global,
-    first: bool,
+    withdraws_first: bool,
     programmes: &[ProgrammeNo],
     residents: &[ResidentNo],
 ) -> Result<Instance, ModelFault> {
     let mut builder = two_and_three(alloc)?;
-    if !first {
+    if !withdraws_first {
         add_lists(&mut builder)?;
     }
     for programme in programmes {
@@ -196,7 +196,7 @@ fn without(
     for resident in residents {
         builder.withdraw_resident(*resident)?;
     }
-    if first {
+    if withdraws_first {
         add_lists(&mut builder)?;
     }
     builder.finish().map_err(|refused| refused.fault)
@@ -217,7 +217,7 @@ fn is_left(instance: &Instance, pairs: u32, programmes: [bool; 2], residents: [b
     if instance.programmes() != 2 || instance.residents() != 3 {
         return false;
     }
-    let gone = [
+    let withdrawn_residents = [
         instance.resident_withdrawn(X),
         instance.resident_withdrawn(Y),
         instance.resident_withdrawn(Z),
@@ -227,17 +227,17 @@ fn is_left(instance: &Instance, pairs: u32, programmes: [bool; 2], residents: [b
             instance.programme_withdrawn(A),
             instance.programme_withdrawn(B),
         ] == programmes
-        && gone == residents
+        && withdrawn_residents == residents
 }
 
 #[test]
 fn a_withdrawn_member_stands_on_no_list(rt: HostRuntime) -> Result<(), Fail> {
-    for first in [false, true] {
-        let programme = without(rt.alloc(), first, &[B], &[])?;
+    for withdraws_first in [false, true] {
+        let programme = without(rt.alloc(), withdraws_first, &[B], &[])?;
         assert!(rt; is_left(&programme, 3, [false, true], [false; 3]));
         assert!(rt; is_programme(&programme, B, 1, &[]));
         assert!(rt; is_resident(&programme, X, &[A]));
-        let resident = without(rt.alloc(), first, &[], &[X])?;
+        let resident = without(rt.alloc(), withdraws_first, &[], &[X])?;
         assert!(rt; is_left(&resident, 2, [false; 2], [true, false, false]));
         assert!(rt; is_programme(&resident, A, 2, &[Y, Z]));
         assert!(rt; is_programme(&resident, B, 1, &[]));
@@ -279,8 +279,7 @@ fn takes_as_many_pairs_as_there_may_be(rt: HostRuntime) -> Result<(), Fail> {
     Ok(())
 }
 
-// Adds a resident, and the greatest number of programmes that there may be. Each programme added here ranks this
-// resident.
+// Adds a resident, and as many programmes as there may be. Each of these programmes ranks this resident.
 fn add_most(alloc: Global, builder: &mut InstanceBuilder) -> Result<Vec<ProgrammeNo>, ModelFault> {
     builder.add_resident()?;
     let mut programmes = Vec::new(alloc);
@@ -335,8 +334,8 @@ fn national_faults_name_their_numbers(rt: HostRuntime) {
             "more than 2000000 acceptable pairs",
         ),
     ] {
-        let told = fault.within(Limits::National);
-        let printed = format!(in rt.alloc(); "{told}").expect(&rt, "a text");
+        let limit_fault = fault.within(Limits::National);
+        let printed = format!(in rt.alloc(); "{limit_fault}").expect(&rt, "a text");
         assert!(rt; printed.as_str() == text, "{printed}");
     }
 }

@@ -17,7 +17,8 @@ module _ {M : Type 0} where
   each_set F views pass k mine others j u e = ⊎_elim (λ (x : (j ≡ pass) × (k ≡ u)). subst (λ (y : ℕ × Known M). F y.0 y.1) (λ i. (sym x.0 i, x.1 i)) mine)
       (λ (x : (j ≢ pass) × (get_elem? views j ≡ some u)). others j u x.0 x.1) (at_set views pass j k u e)
 
-  -- if knowledge is added at the end of a list and was not there before, its number is the length of the list
+  -- if a was added at the end of a list, and the new list has b at a number where the old list had not, the number is
+  -- the old list's length
   at_end : (views : List (Known M)) (a b : Known M) (j : ℕ) → get_elem? views j ≢ some b → get_elem? (views ++ a ∷ []) j ≡ some b → j ≡ length views
   at_end [] a b zero n e = refl
   at_end [] a b (suc j) n e = absurd (some-ne-none b (sym e))

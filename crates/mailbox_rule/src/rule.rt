@@ -7,7 +7,7 @@ use crossbeam_channel::protocol::{Join, Lesson, Outcome, Protocol, Split};
 use std::collections::LinkedList;
 use std::marker::Brand;
 
-/// What a proof knows for one end of the channel: whether this end may put, whether it may take, the capacity, and
+/// What a proof knows of one end of the channel: whether this end may put, whether it may take, the capacity, and
 /// the messages that it put and took.
 pub struct Known<M> {
     pub may_put: bool,

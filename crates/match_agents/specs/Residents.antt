@@ -42,13 +42,14 @@ better_place None best = None
 better_place (Some place) None = Some place
 better_place (Some place) (Some (p, best)) = if nat_lt place best then Some place else None
 
--- The answers to an offer by p. With a position, it is better than the best offer so far: it gets `hold`, and the
--- best so far gets `release`. Without one it gets `decline`.
+-- The answers to an offer by p. If there is a position, the offer is better than the best offer so far: it gets
+-- `hold`, and the best offer so far gets `release`. Else it gets `decline`.
 abbrev pub called_for : ℕ → Option ℕ → Option (ℕ × ℕ) → List Answered
 called_for p None best = (p, Decline) ∷ []
 called_for p (Some place) best = (p, Hold) ∷ release_of (programme_in best)
 
--- the best offer after p's offer is decided: p's if there is a position, else the best offer so far
+-- the best offer after p's offer is decided: p's offer if there is a position, else the best offer
+-- so far
 abbrev pub best_with : ℕ → Option ℕ → Option (ℕ × ℕ) → Option (ℕ × ℕ)
 best_with p None best = best
 best_with p (Some place) best = Some (p, place)
@@ -83,7 +84,7 @@ module _ {T : Type 0} where
   abbrev pub gave_answer : ResidentDesk T → ResidentDesk T
   gave_answer desk = record desk { due = drop 1 desk.due }
 
-  -- the taken offers, without the last if that is undecided
+  -- the offers taken and decided: all taken offers, except an undecided last one
   abbrev pub decided : ResidentDesk T → List ℕ
   decided desk = if desk.undecided then without_last desk.taken else desk.taken
 

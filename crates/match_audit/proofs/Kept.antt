@@ -12,7 +12,7 @@ use Rattle.match_model.proofs.Counts.{count_of}
 use Rattle.match_model.proofs.Listed.{count_from_no_repeats, no_repeats_from_count, listed_push_parts, listed_push_before, listed_push_last, no_repeats_push, no_repeats_last}
 use Rattle.settle_law.proofs.Places.{HasNoRepeats-nil, IsListed-nil, IsListed-get_or, get_or-place}
 
--- the selected items: those of the list for which P holds, each once
+-- the selected items are the items of the list for which P holds, each once
 pub record Keeps (P : ℕ → Type 0) (xs kept : List ℕ) : Type 0 where
   pub once : HasNoRepeats kept
   pub each : (x : ℕ) → IsListed kept x ↔ (IsListed xs x × P x)
@@ -66,7 +66,6 @@ HasNoRepeats-permutation xs ys p h = no_repeats_from_count ys (λ x.
     let same : count_of x ys ≡ count_of x xs = count_of-sum x ys ∙ sum_by-IsPermutation (λ y. cond (eqb y x) 1 0) xs ys p ∙ sym (count_of-sum x xs) in
     let few = count_from_no_repeats xs h x in omega arith)
 
--- items without repeats, once sorted, rise strictly
 pub IsStrictlyIncreasing-sorted : (xs ys : List ℕ) → HasNoRepeats xs → IsPermutation xs ys → IsSorted nat_cmp ys → IsStrictlyIncreasing ys
 IsStrictlyIncreasing-sorted xs ys h p up k l =
     let rises = IsNonDecreasingBy-from_sort (λ (n : ℕ). n) ys up k (k + 1) 0 (omega arith) l in

@@ -9,8 +9,6 @@ use Rattle.std.proofs.lemmas.List.Elements.{Contains-get_or, Contains-append_lef
 use Rattle.std.proofs.lemmas.List.Kept.{AllPairs-from_increasing}
 use Rattle.match_audit.specs.Listing.{ComesBefore, Lists}
 
--- all items of two joined lists are in order, if they are in order in each list and each item of the first list is in
--- order with each of the second
 pub AllPairs-append : {X : Type 0} (R : X → X → Type 0) (xs ys : List X) → AllPairs R xs → AllPairs R ys →
     ((x y : X) → Contains xs x → Contains ys y → R x y) → AllPairs R (xs ++ ys)
 AllPairs-append R xs ys h k across i j d l m = elim (cases_lt j (length xs)) [

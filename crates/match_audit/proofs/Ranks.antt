@@ -41,7 +41,6 @@ listed_in_front xs x k l = (
     whole : (x : ℕ) → IsListed (take k xs) x → place xs x ≡ place (take k xs) x
     whole x h = ap (λ (zs : List ℕ). place zs x) (sym (take-append-drop k xs)) ∙ place-append (take k xs) (drop k xs) x h
 
--- a number is among the items before q's rank exactly if it is listed and stands before q
 pub front_of : (xs : List ℕ) (q p k : ℕ) → Some k ≡ rank xs q → IsListed (take k xs) p ↔ (IsListed xs p × (place xs p < place xs q))
 front_of xs q p k e = elim (rank_parts xs q (Some k) e) [
   | inl c ↦

@@ -23,6 +23,6 @@ pub record Reports (inst : Instance) (m : List (Option ℕ)) (report : AuditRepo
   pub over : Lists (IsOver inst m) report.over.items
   pub blocking : Lists (Blocks inst m) report.blocking.items
 
--- for every placement with this report, the answer is whether the placement is stable
+-- the answer says whether a placement with this report is stable
 abbrev pub TellsStability : AuditReport → Bool → Type 0
 TellsStability report answer = (inst : Instance) (m : List (Option ℕ)) → Reports inst m report → IsTrue answer ↔ IsStable inst m

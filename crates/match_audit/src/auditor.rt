@@ -39,9 +39,8 @@ impl From<AllocError> for AuditFault {
     }
 }
 
-/// Finds the unacceptable pairs, the programmes over their quota and the blocking pairs. A resident whom a programme
-/// doesn't list ranks below all on its list, and so for residents' lists. In the placement any number may stand in
-/// place of a programme's.
+/// Finds the unacceptable pairs, the programmes over their quota and the blocking pairs. A member who isn't on a
+/// list ranks below all members on it. The placement may have numbers that no programme has.
 pub fn audit(
     alloc: Global,
     inst: &Instance,

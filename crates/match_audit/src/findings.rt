@@ -39,7 +39,7 @@ fn is_acceptable(inst: &Instance, resident: ResidentNo, programme: ProgrammeNo) 
     requires { IsResident inst.now resident }
     ensures { IsTrue result ↔ Acceptable inst.now resident programme }
 {
-    // Only the proof needs this call: by its clause, if a resident ranks a programme, the programme ranks the
+    // For the proof alone: by its clause, if a resident ranks a programme, the programme ranks the
     // resident.
     let _residents = inst.residents();
     inst.rank_at_resident(resident, programme).is_some()
@@ -102,7 +102,7 @@ fn append_pairs(
     Ok(())
 }
 
-/// The programmes that form a blocking pair with this resident, ordered by number.
+/// The programmes that form a blocking pair with this resident, in the order of their numbers.
 fn blocking_programmes(
     alloc: Global,
     inst: &Instance,
@@ -127,8 +127,8 @@ fn blocking_programmes(
     Ok(programmes)
 }
 
-/// The programmes that a resident prefers to the held one: the beginning of the resident's list, up to the held
-/// programme. If the held programme isn't on the list, or none is held, this is the whole list.
+/// The programmes that a resident prefers to the programme held: the resident's list up to that programme. This
+/// is the whole list if that programme isn't on it or if no programme is held.
 fn preferred(inst: &Instance, resident: ResidentNo, held: Option<ProgrammeNo>) -> &[ProgrammeNo]
     requires instance { IsInstance inst.now }
     requires member { IsResident inst.now resident }

@@ -24,7 +24,7 @@ pub fn settle(alloc: Global, inst: &Instance) -> Result<Assignment, AuditFault>
     ensures settled { IfOk result (IsSettled inst.now) }
     ensures memory { IfErr result (λ fault. fault ≡ AuditFault.Memory) }
 {
-    // Only the proof needs this call: a closed legal list of events leads to a stable and settled assignment.
+    // For the proof alone: a closed legal list of events leads to a stable and settled assignment.
     law_settled();
     let Ok(mut core) = Core::new(alloc, inst, Capacity::Full) else {
         return Err(AuditFault::Memory);
@@ -60,7 +60,7 @@ pub fn is_result(alloc: Global, inst: &Instance, sheet: &Assignment) -> Result<b
     ensures exact { IfOk result (λ yes. IsTrue yes ↔ IsSettled inst.now sheet.now) }
     ensures memory { IfErr result (λ fault. fault ≡ AuditFault.Memory) }
 {
-    // Only the proof needs this call: an instance has only one settled assignment.
+    // For the proof alone: an instance has only one settled assignment.
     law_one_settled();
     match first_unlike_result(alloc, inst, sheet) {
         Ok(None) => Ok(true),
@@ -69,9 +69,9 @@ pub fn is_result(alloc: Global, inst: &Instance, sheet: &Assignment) -> Result<b
     }
 }
 
-/// Lets each programme make offers down its list. If a resident releases a programme, that programme offers next, so
-/// that at the end no programme should have a wish. No clause relies on this: `step_to_the_close` enters whatever
-/// events are left.
+/// Lets each programme make offers down its list. If a resident releases a programme, that programme offers next. At
+/// the end no programme should have a wish, but no clause relies on this: `step_to_the_close` enters all events that
+/// are left.
 fn offer_down_the_lists(core: &mut Core, inst: &Instance)
     requires core { IsCoreOf inst.now core.old }
     requires reached { IsReached inst.now core.old }

@@ -62,7 +62,7 @@ pub sum_below_zero : (n : ℕ) → sum_below (λ k. 0) n ≡ 0
 sum_below_zero zero = refl
 sum_below_zero (suc n) = omega (arith, sum_below_zero n)
 
--- number x equals at most one of the numbers below n
+-- at most one of the numbers below n equals x
 pub sum_below_mark : (x n : ℕ) → sum_below (λ k. cond (eqb x k) 1 0) n ≤ 1
 sum_below_mark x n = step (cases_lt x n)
   where

@@ -42,7 +42,7 @@ owners_more n lists x =
     step true row = refl
     step false row = append-nil row
 
--- a row is one longer if the owner is added, and stays as long otherwise
+-- a row is longer by one if the owner is added, and else as long as before
 length-with_owner : (owner : ℕ) (b : Bool) (row : List ℕ) → length (with_owner owner b row) ≡ stepped (λ n. n + 1) b (length row)
 length-with_owner owner true row = length_push row owner
 length-with_owner owner false row = refl
@@ -82,7 +82,7 @@ module _ {T : Type 0} (none : T) (step : ℕ → T → T) where
   pub AreStepped-none : (before : List T) → AreStepped none step [] before before
   AreStepped-none before = record { one_each = refl; item = λ x h. refl }
 
-  -- an item that isn't on the list leaves the entry of the number as it was
+  -- a number that isn't on the list keeps its entry unchanged
   pub AreStepped-unlisted : (list : List ℕ) (before after : List T) (x : ℕ) → AreStepped none step list before after → x < length before → is_listed list x ≡ false → get_or after x none ≡ get_or before x none
   AreStepped-unlisted list before after x a h e = a.item x h ∙ ap (λ b. stepped (step x) b (get_or before x none)) e
 

@@ -57,11 +57,12 @@ module _ (all rows : List (List ℕ)) (i : ℕ) (within : i < length all) (list 
       let nothing = ap (length {A = ℕ}) begun in
       record { ended = more; none_begun = begun; counted = omega arith }
 
--- the first k lists have at most as many items as all lists, so they are above a limit only if all lists are
+-- the first k lists have at most as many items as all lists, so they exceed a limit only if all lists
+-- together exceed it
 pub over_in_all : (most : Option ℕ) (made : List (List ℕ)) (n k : ℕ) → n ≡ sum_by length (take k made) → are_over most n ≡ true → are_over most (sum_by length made) ≡ true
 over_in_all most made n k counted e = over_more most n (sum_by length made) (let l = sum_by-take-le (length {A = ℕ}) made k in omega arith) e
 
--- what is true of an error is true of the result that is this error
+-- if P is true of an error, P is true of the error in a result that is this error
 pub same_err : {T E : Type 0} (r : Result T E) (e : E) (P : E → Type 0) → IsErrAnd r (λ x. x ≡ e) → P e → IfErr r P
 same_err (Ok v) e P h p = tt
 same_err (Err x) e P h p = subst P (sym h) p
@@ -72,10 +73,9 @@ fault_of_most most n e (inl m) = inl m
 fault_of_most most n e (inr t) = inr (t.0, ltb-true most n t.1)
 
 -- a fault without a limit is out of memory
-pub memory_alone : {T : Type 0} (n : ℕ) (r : Result T ModelFault) → IfErr r (IsGatherFault None n) → IfErr r (λ fault. fault ≡ Memory)
-memory_alone n (Ok v) h = tt
-memory_alone n (Err e) (inl m) = m
-memory_alone n (Err e) (inr t) = absurd (false≢true t.1)
+pub memory_alone : (n : ℕ) (e : ModelFault) → IsGatherFault None n e → e ≡ Memory
+memory_alone n e (inl m) = m
+memory_alone n e (inr t) = absurd (false≢true t.1)
   where
     false≢true : false ≡ true → ⊥
-    false≢true e = cc
+    false≢true h = cc

@@ -7,7 +7,6 @@ use Rattle.std.proofs.lemmas.List.Sums.{get_or-le-sum_by}
 use Rattle.match_model.specs.Ranking.{is_listed, IsListed}
 use Rattle.match_model.specs.Instance.{IsWellFormed, is_withdrawn, list_at, list_of_programme, list_of_resident, pair_count}
 use Rattle.match_model.specs.Draft.{Draft, IsDraft, given_lists, programme_lists_left, resident_lists_left, instance_of, mutual_lists, has_no_repeats}
-use Rattle.match_model.specs.RankTable.{AreListedBack}
 use Rattle.match_model.specs.Limits.{IsWithin, most_pairs}
 use Rattle.match_model.specs.declared.limits.TheConstants.{MAX_QUOTA, MAX_PAIRS}
 use Rattle.match_model.proofs.LimitFacts.{programmes_bounded, residents_bounded}
@@ -44,12 +43,6 @@ and_comm false false = refl
 turned : (mine theirs : List (List ℕ)) (i x : ℕ) → IsListed (list_at (mutual_lists mine theirs) i) x → IsListed (list_at (mutual_lists theirs mine) x) i
 turned mine theirs i x h =
     is_listed-true _ i (listed_both theirs mine x i ∙ and_comm (is_listed (list_at theirs x) i) (is_listed (list_at mine i) x) ∙ sym (listed_both mine theirs i x) ∙ is_listed_from _ x h)
-
--- if a member stands on p's mutual list, p stands on the member's mutual list
-pub listed_back : (mine theirs : List (List ℕ)) (p : ℕ) → AreListedBack (mutual_lists theirs mine) p (list_at (mutual_lists mine theirs) p)
-listed_back mine theirs p = record {
-  back = λ r e. listed_both theirs mine r p ∙ and_comm (is_listed (list_at theirs r) p) (is_listed (list_at mine p) r) ∙ sym (listed_both mine theirs p r) ∙ e;
-}
 
 -- two tests that agree on all items of a list filter the list in the same way
 filter_listed : (p q : ℕ → Bool) (xs : List ℕ) → ((x : ℕ) → is_listed xs x ≡ true → p x ≡ q x) → filter p xs ≡ filter q xs

@@ -1,6 +1,5 @@
 pub mod Rankings
-pub mod RankTables
-pub mod OfferRanks
+pub mod Guessed
 pub mod LimitFacts
 pub mod Drafts
 pub mod Remaining

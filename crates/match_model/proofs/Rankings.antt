@@ -132,7 +132,8 @@ has_no_repeats-append (x ∷ xs) ys h =
     step : (a b n m l : Bool) → l ≡ a || b → not a && n ≡ false → (n ≡ false → m ≡ false) → not l && m ≡ false
     step a b n m l e h f = grind arith
 
--- if a list has no repeats, its first item is not among the others, and these have no repeats
+-- if a list has no repeats, its first item is not among the other items, and the other items have
+-- no repeats
 no_repeats_parts : (y : ℕ) (ys : List ℕ) → has_no_repeats (y ∷ ys) ≡ true → (is_listed ys y ≡ false) × (has_no_repeats ys ≡ true)
 no_repeats_parts y ys h = let part = and_parts (not (is_listed ys y)) (has_no_repeats ys) h in (not-true (is_listed ys y) part.0, part.1)
 

@@ -12,7 +12,7 @@ length-remaining_lists [] flags = refl
 length-remaining_lists (l ∷ ls) [] = refl
 length-remaining_lists (l ∷ ls) (f ∷ fs) = ap suc (length-remaining_lists ls fs)
 
--- a choice between a list and the same list is this list
+-- a choice between two copies of a list is this list
 either_way : (xs : List ℕ) (b : Bool) → xs ≡ (if b then xs else xs)
 either_way xs true = refl
 either_way xs false = refl

@@ -125,7 +125,7 @@ module _ (mine theirs : List (List ℕ)) (my_flags their_flags : List Bool) wher
       (length-mutual_lists my_left their_left ∙ sym (length-mutual_lists (map (strike their_flags) my_left) (map (strike my_flags) their_left) ∙ length-map my_left (strike their_flags)))
       (λ o h. mutual_list_at my_left their_left o ∙ mutual_struck_at o ∙ sym (mutual_list_at (map (strike their_flags) my_left) (map (strike my_flags) their_left) o))
 
--- the lists that remain of a draft from which withdrawn members were struck are those that remain of the draft,
+-- for a draft from which the withdrawn members were struck, the remaining lists are the draft's remaining lists
 -- without these members
 struck_left : (lists : List (Option (List ℕ))) (owners others : List Bool) → remaining_lists (given_lists (struck_lists lists owners others)) (none_withdrawn owners) ≡ map (strike others) (remaining_lists (given_lists lists) owners)
 struck_left lists owners others = remaining_none (given_lists (struck_lists lists owners others)) owners ∙ given_struck others (remaining_lists (given_lists lists) owners)

@@ -44,7 +44,8 @@ unfoldable pub mutual_lists : List (List ℕ) → List (List ℕ) → List (List
 mutual_lists mine theirs =
     map (λ (owned : ℕ × List ℕ). filter (λ x. is_listed (list_at theirs x) owned.0) owned.1) (enumerate_from 0 mine)
 
--- the instance of a builder's input: a list keeps those who list its owner too, and a withdrawn member lists nobody
+-- the instance of a builder's input: each list keeps the members who list its owner too, and a withdrawn member
+-- lists nobody
 abbrev pub instance_of : Draft → Instance
 instance_of d = record {
   quotas = d.quotas;
@@ -83,7 +84,7 @@ abbrev pub list_in : List ℕ → Option (ℕ × ℕ) → Option (List ℕ)
 list_in items None = None
 list_in items (Some span) = Some (slice_range items span.0 span.1)
 
--- if there is a span, it does not end before its start, and not after n
+-- if there is a span, its end is neither before its start nor after n
 abbrev pub IsSpan : ℕ → Option (ℕ × ℕ) → Type 0
 IsSpan n None = Unit {0}
 IsSpan n (Some span) = (span.0 ≤ span.1) × (span.1 ≤ n)

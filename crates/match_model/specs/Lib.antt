@@ -2,7 +2,6 @@ pub mod Ranking
 pub mod Instance
 pub mod Limits
 pub mod Rows
-pub mod RankTable
 pub mod Draft
 pub mod Owners
 pub mod Placement

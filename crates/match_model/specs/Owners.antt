@@ -15,12 +15,12 @@ pub record AreOwners (count n : ℕ) (lists rows : List (List ℕ)) : Type 0 whe
   pub one_each : length rows ≡ count
   pub row : (x : ℕ) → x < count → list_at rows x ≡ owners_below n lists x
 
--- the item after this step if the test is true, else the item itself
+-- the item after the step if the test is true, else the item as it was
 abbrev pub stepped : {T : Type 0} → (T → T) → Bool → T → T
 stepped step true item = step item
 stepped step false item = item
 
--- an item takes one step if its position, from 0, stands in the list; every other item is unchanged
+-- `step` is applied to each item whose position, from 0, stands in the list; every other item is unchanged
 pub record AreStepped {T : Type 0} (none : T) (step : ℕ → T → T) (list : List ℕ) (before after : List T) : Type 0 where
   pub one_each : length after ≡ length before
   pub item : (x : ℕ) → x < length before → slice_index_or after x none ≡ stepped (step x) (is_listed list x) (slice_index_or before x none)
@@ -52,3 +52,9 @@ pub record AreRows (count n : ℕ) (rows : List (List ℕ)) : Type 0 where
 -- every item of list i also stands in row i
 abbrev pub AreCovered : List (List ℕ) → List (List ℕ) → Type 0
 AreCovered lists rows = (i x : ℕ) → is_listed (list_at lists i) x ≡ true → is_listed (list_at rows i) x ≡ true
+
+-- each list has a row with all of the list's items, sorted by number
+pub record AreChoices (lists rows : List (List ℕ)) : Type 0 where
+  pub one_row_each : length rows ≡ length lists
+  pub covered : AreCovered lists rows
+  pub rising : All IsNonDecreasing rows

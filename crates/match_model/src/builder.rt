@@ -7,7 +7,6 @@ use crate::given::GivenLists;
 use crate::instance::Instance;
 use crate::limits::{Limits, MAX_QUOTA};
 use crate::member::{ProgrammeNo, ResidentNo};
-use crate::offer_ranks::offer_ranks;
 use crate::written::WrittenLists;
 use crate::{mutual_parts, ranking};
 use std::alloc::Global;
@@ -273,7 +272,7 @@ impl InstanceBuilder {
         ensures within { OnOk result (IsWithin self.now.limits (instance_of self.now)) }
         ensures cause { IfErr result (IsFinishFault self.now) }
     {
-        let (programmes, programme_ranks) = mutual_parts::mutual(
+        let programmes = mutual_parts::mutual(
             self.alloc,
             self.limits.pairs(),
             &self.programme_lists,
@@ -281,21 +280,18 @@ impl InstanceBuilder {
             &self.resident_lists,
             &self.residents_withdrawn,
         )?;
-        let (residents, resident_ranks) = mutual_parts::mutual_in_turn(
+        let (residents, choices) = mutual_parts::mutual_in_turn(
             self.alloc,
             &self.resident_lists,
             &self.residents_withdrawn,
             &programmes,
         )?;
-        let offer_ranks = offer_ranks(self.alloc, &programmes, &resident_ranks)?;
         let pairs = programmes.item_count() as u32;
         Ok(Instance {
             quotas: Vec::from_slice(self.alloc, &self.quotas)?,
             programme_lists: programmes.into_residents(self.alloc)?,
             resident_lists: residents.into_programmes(self.alloc)?,
-            programme_ranks,
-            resident_ranks,
-            offer_ranks,
+            choices,
             pairs,
             programmes_withdrawn: Vec::from_slice(self.alloc, &self.programmes_withdrawn)?,
             residents_withdrawn: Vec::from_slice(self.alloc, &self.residents_withdrawn)?,

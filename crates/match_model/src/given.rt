@@ -1,4 +1,4 @@
-//! The lists of one side as they are given, one after another in one vector.
+//! The lists of one side as they were given, one after another in one vector.
 ghost use Rattle.std.specs.Prelude.{◌≡◌, ◌+◌, ◌<◌, ◌≤◌, ◌∷◌, ◌++◌, [], length, None, Some, OnOk, OnErr, slice_index_or, slice_set, unwrap_or, vec_len, vec_capacity};
 ghost use Rattle.match_model.specs.Draft.{owner_fault, items_fault, given_lists, AnswersFirst, AnswersOrWantsMemory};
 ghost use Rattle.match_model.specs.Instance.{list_at};

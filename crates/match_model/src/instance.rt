@@ -2,11 +2,15 @@
 ghost use Rattle.std.specs.Prelude.{◌≡◌, ◌<◌, ◌≤◌, length, slice_get, Some, IfSome};
 ghost use Rattle.match_model.specs.Instance.{IsInstance, IsProgramme, IsResident, pair_count, is_withdrawn, quota as quota_of, list_of_programme as ranking_of_programme, list_of_resident as ranking_of_resident, offer_at as offer_of, rank};
 
+use crate::choices::Choices;
+use crate::guesses::{guess_at, rank_of_programme, rank_of_resident};
 use crate::limits::MAX_PAIRS;
 use crate::member::{ProgrammeNo, ResidentNo};
-use crate::rank_table::rank_in;
 use crate::rows::Rows;
 use std::marker::Model;
+
+// A walk along a list up to this length takes no longer than a search.
+const SHORT: usize = 16;
 
 /// The quotas, and for each member the ranking of the members who rank this member too, best first.
 #[derive(Debug)]
@@ -14,9 +18,7 @@ pub struct Instance {
     pub(crate) quotas: Vec<u32>,
     pub(crate) programme_lists: Rows<ResidentNo>,
     pub(crate) resident_lists: Rows<ProgrammeNo>,
-    pub(crate) programme_ranks: Rows<(u32, u32)>,
-    pub(crate) resident_ranks: Rows<(u32, u32)>,
-    pub(crate) offer_ranks: Rows<u32>,
+    pub(crate) choices: Choices,
     pub(crate) pairs: u32,
     pub(crate) programmes_withdrawn: Vec<bool>,
     pub(crate) residents_withdrawn: Vec<bool>,
@@ -24,7 +26,7 @@ pub struct Instance {
 
 impl Model for Instance {
     ghost use Rattle.match_model.specs.Instance.{Instance as Rankings, IsWellFormed, instance_with};
-    ghost use Rattle.match_model.specs.RankTable.{AreRankTables, AreOfferRanks};
+    ghost use Rattle.match_model.specs.Owners.{AreChoices};
 
     ghost Value = { Rankings };
 
@@ -34,22 +36,18 @@ impl Model for Instance {
     ghost invariant = { λ i. record {
       rankings : IsWellFormed (instance_with i.quotas.items i.programme_lists.rows
           i.resident_lists.rows i.programmes_withdrawn.items i.residents_withdrawn.items) i.pairs;
-      programme_ranks : AreRankTables i.programme_lists.rows i.programme_ranks.rows;
-      resident_ranks : AreRankTables i.resident_lists.rows i.resident_ranks.rows;
-      offer_ranks : AreOfferRanks i.programme_lists.rows i.resident_lists.rows i.offer_ranks.rows;
+      choices : AreChoices i.resident_lists.rows i.choices.rows.rows;
     } };
 }
 
-// One function drops the whole instance. So a caller that drops an instance need not prove anything about its parts.
+// One function drops the whole instance: callers prove nothing about its parts.
 impl Drop for Instance {
     fn drop(self) {
         let Instance {
             quotas: _,
             programme_lists: _,
             resident_lists: _,
-            programme_ranks: _,
-            resident_ranks: _,
-            offer_ranks: _,
+            choices: _,
             pairs: _,
             programmes_withdrawn: _,
             residents_withdrawn: _,
@@ -139,12 +137,14 @@ impl Instance {
         ensures ranked { IfSome result (λ offer.
             rank (ranking_of_resident self.now offer.0) programme ≡ Some offer.1) }
     {
-        let list = self.programme_lists.row(programme.0 as usize);
-        let ranks = self.offer_ranks.row(programme.0 as usize);
-        match list.get(place as usize) {
-            Some(resident) => Some((*resident, ranks[place as usize])),
-            None => None,
-        }
+        let resident = self.listed_at(programme, place)?;
+        let offer = self
+            .programme_lists
+            .index(programme.0 as usize, place as usize);
+        let choice = guess_at(&self.choices.offers, offer) as usize;
+        let guess = guess_at(&self.choices.resident_ranks, choice);
+        let rank = self.rank_by_guess(resident, programme, guess)?;
+        Some((resident, rank))
     }
 
     /// The programmes that a resident ranks and that rank the resident, best first. The resident is a member.
@@ -164,8 +164,16 @@ impl Instance {
         requires { IsProgramme self.now programme }
         ensures { result ≡ rank (ranking_of_programme self.now programme) resident }
     {
-        let table = self.programme_ranks.row(programme.0 as usize);
-        rank_in(table, resident.0)
+        if resident.0 as usize >= self.resident_lists.len() {
+            return None;
+        }
+        let choice = self.choices.rows.find(resident.0 as usize, programme.0)?;
+        let guess = guess_at(&self.choices.programme_ranks, choice);
+        let list = self.programme_lists.row(programme.0 as usize);
+        match list.get(guess as usize) {
+            Some(listed) if *listed == resident => Some(guess),
+            _ => rank_of_resident(list, resident),
+        }
     }
 
     /// The place of a programme on a resident's list, counted from 0, if the pair is acceptable. The resident is a
@@ -175,13 +183,29 @@ impl Instance {
         requires { IsResident self.now resident }
         ensures { result ≡ rank (ranking_of_resident self.now resident) programme }
     {
-        let table = self.resident_ranks.row(resident.0 as usize);
-        rank_in(table, programme.0)
+        let list = self.resident_lists.row(resident.0 as usize);
+        if list.len() <= SHORT {
+            return rank_of_programme(list, programme);
+        }
+        self.rank_by_choice(resident, programme)
     }
 
-    /// Returns what `rank_at_resident` returns, but looks at the guessed place of the list first. The resident is a
-    /// member.
-    #[inline]
+    /// What `rank_at_resident` returns, found by a search among the resident's choices.
+    fn rank_by_choice(&self, resident: ResidentNo, programme: ProgrammeNo) -> Option<u32>
+        requires { IsResident self.now resident }
+        ensures { result ≡ rank (ranking_of_resident self.now resident) programme }
+    {
+        let choice = self.choices.rows.find(resident.0 as usize, programme.0)?;
+        let guess = guess_at(&self.choices.resident_ranks, choice);
+        let list = self.resident_lists.row(resident.0 as usize);
+        match list.get(guess as usize) {
+            Some(listed) if *listed == programme => Some(guess),
+            _ => rank_of_programme(list, programme),
+        }
+    }
+
+    /// The same as `rank_at_resident`, but the guessed place of the list is tried first. The resident is a member.
+    #[inline(always)]
     pub fn rank_by_guess(
         &self,
         resident: ResidentNo,

@@ -8,16 +8,16 @@
 
 mod assignment;
 mod builder;
+mod choices;
 mod fault;
 mod given;
+mod guesses;
 mod instance;
 mod limits;
 mod member;
 mod mutual_parts;
-mod offer_ranks;
 mod owners;
 mod places;
-mod rank_table;
 mod ranking;
 mod rows;
 mod withdrawals;

@@ -7,6 +7,7 @@ ghost use Rattle.match_model.specs.Draft.{lists_left, has_no_repeats};
 ghost use Rattle.match_model.specs.Owners.{AreOwners, AreCounts, AreStepped};
 
 use crate::given::GivenLists;
+use crate::guesses::note_guess;
 use crate::ranking::remaining;
 use crate::rows::Rows;
 use std::alloc::{AllocError, Global};
@@ -47,8 +48,17 @@ fn count_items(counts: &mut [usize], items: &[u32])
 }
 
 /// Enters an owner into the row of each item of the owner's list, behind the owners who were entered there before,
-/// and counts the owner there.
-fn enter(rows: &mut Rows<u32>, counts: &mut [usize], owner: u32, items: &[u32])
+/// and counts the owner there. In `places` the rank of the row's number on the owner's list is noted, at the new item's
+/// index. In `offers` this index is noted, at the item of the list, which begins there at `start`.
+fn enter(
+    rows: &mut Rows<u32>,
+    counts: &mut [usize],
+    places: &mut [u32],
+    offers: &mut [u32],
+    start: usize,
+    owner: u32,
+    items: &[u32],
+)
     requires below { list_all (λ x. nat_lt x (length counts.old)) items.now ≡ true }
     requires distinct { has_no_repeats items.now ≡ true }
     requires few { (x : ℕ) → x < length counts.old → slice_index counts.old x < 2 ^ 32 }
@@ -59,9 +69,13 @@ fn enter(rows: &mut Rows<u32>, counts: &mut [usize], owner: u32, items: &[u32])
         slice_set row (slice_index counts.old x) owner) items.now rows.old.rows rows.new.rows }
     ensures counted { AreStepped 0 (λ _ n. n + 1) items.now counts.old counts.new }
 {
+    let mut place: usize = 0;
     for item in items {
         let row = *item as usize;
-        rows.set(row, counts[row], owner);
+        let choice = rows.set(row, counts[row], owner);
+        note_guess(places, choice, place);
+        note_guess(offers, start.wrapping_add(place), choice);
+        place = place.wrapping_add(1);
         counts[row] += 1;
     }
 }
@@ -89,6 +103,9 @@ pub(crate) fn owners(
         enter(
             &mut rows,
             &mut counts,
+            &mut [],
+            &mut [],
+            0,
             owner as u32,
             remaining(lists, withdrawn, owner),
         );
@@ -111,23 +128,34 @@ fn lengths_by_rows(alloc: Global, count: usize, lists: &Rows<u32>) -> Result<Vec
     Ok(counts)
 }
 
-/// What `owners` gives, for lists that are stored as rows.
+/// What `owners` gives, for lists that are stored as rows. Also gives what `enter` notes, first `places` and then
+/// `offers`.
 pub(crate) fn owners_of_rows(
     alloc: Global,
     count: usize,
     lists: &Rows<u32>,
-) -> Result<Rows<u32>, AllocError>
+) -> Result<(Rows<u32>, Vec<u32>, Vec<u32>), AllocError>
     requires few { length lists.now.rows < 2 ^ 32 }
     requires below { All (λ list. list_all (λ x. nat_lt x count) list ≡ true) lists.now.rows }
     requires distinct { All (λ list. has_no_repeats list ≡ true) lists.now.rows }
     ensures { IfOk result (λ made.
-        AreOwners count (length lists.now.rows) lists.now.rows made.rows) }
+        AreOwners count (length lists.now.rows) lists.now.rows made.0.rows) }
 {
     let lengths = lengths_by_rows(alloc, count, lists)?;
     let mut rows = Rows::of_lengths(alloc, &lengths)?;
     let mut counts: Vec<usize> = vec![in alloc; 0; count]?;
+    let mut places: Vec<u32> = vec![in alloc; 0; lists.item_count()]?;
+    let mut offers: Vec<u32> = vec![in alloc; 0; lists.item_count()]?;
     for owner in 0..lists.len() {
-        enter(&mut rows, &mut counts, owner as u32, lists.row(owner));
+        enter(
+            &mut rows,
+            &mut counts,
+            &mut places,
+            &mut offers,
+            lists.index(owner, 0),
+            owner as u32,
+            lists.row(owner),
+        );
     }
-    Ok(rows)
+    Ok((rows, places, offers))
 }

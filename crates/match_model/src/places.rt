@@ -28,8 +28,8 @@ pub(crate) fn stands_in(places: &[usize], list: &[u32], number: u32) -> bool
     place_in(places, list, number).is_some()
 }
 
-/// Notes the place of each item of a list without repeats. Notes of other lists may remain in the table, but a
-/// place that they name has another number in this list.
+/// Notes the place of each item of a list without repeats. The table may keep notes of other lists. They do no
+/// harm, since a look-up tests the number at the noted place.
 pub(crate) fn note_places(places: &mut [usize], list: &[u32])
     requires below { list_all (λ x. nat_lt x (length places.old)) list.now ≡ true }
     requires distinct { has_no_repeats list.now ≡ true }

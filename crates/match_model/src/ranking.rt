@@ -104,7 +104,7 @@ pub(crate) fn resident_numbers(
 {
     let mut named = Vec::with_capacity(alloc, numbers.len())?;
     for number in numbers {
-        named.push(ResidentNo(*number))?;
+        named.push_reserved(ResidentNo(*number));
     }
     Ok(named)
 }
@@ -118,7 +118,7 @@ pub(crate) fn programme_numbers(
 {
     let mut named = Vec::with_capacity(alloc, numbers.len())?;
     for number in numbers {
-        named.push(ProgrammeNo(*number))?;
+        named.push_reserved(ProgrammeNo(*number));
     }
     Ok(named)
 }

@@ -1,6 +1,8 @@
 //! Rows of items, stored one after another in one vector.
-ghost use Rattle.std.specs.Prelude.{◌≡◌, ◌+◌, ◌<◌, ◌≤◌, [], ◌∷◌, ◌++◌, length, map, replicate, slice_index_or, slice_set, IfOk, OnOk};
+ghost use Rattle.std.specs.Prelude.{◌≡◌, ◌+◌, ◌<◌, ◌≤◌, [], ◌∷◌, ◌++◌, length, map, replicate, slice_index_or, slice_set, None, false, IfOk, OnOk, OnErr};
 ghost use Rattle.std.specs.List.{slice_range, sum_by};
+ghost use Rattle.std.specs.List.Sorted.{IsNonDecreasing};
+ghost use Rattle.match_model.specs.Ranking.{is_listed};
 
 use crate::member::{ProgrammeNo, ResidentNo};
 use crate::ranking::{programme_numbers, resident_numbers};
@@ -28,7 +30,7 @@ impl<T> Model for Rows<T> {
     ghost invariant = { λ r. AreEnds 0 r.ends.items (length r.items.items) };
 }
 
-// One function drops all rows. So a caller that drops rows need not prove anything about their parts.
+// One function drops all rows: callers prove nothing about their parts.
 impl<T: Drop> Drop for Rows<T> {
     fn drop(self) {
         let Rows { items: _, ends: _ } = self;
@@ -68,8 +70,8 @@ impl<T: Copy> Rows<T> {
         Ok(())
     }
 
-    /// Overwrites an item of a finished row.
-    pub(crate) fn set(&mut self, row: usize, place: usize, item: T)
+    /// Overwrites an item of a finished row, and returns the item's index among all items.
+    pub(crate) fn set(&mut self, row: usize, place: usize, item: T) -> usize
         requires { place < length (slice_index_or self.old.rows row []) }
         ensures { self.new ≡ record self.old {
           rows = slice_set self.old.rows row
@@ -78,6 +80,19 @@ impl<T: Copy> Rows<T> {
     {
         let at = start_of(&self.ends, row) + place;
         self.items[at] = item;
+        at
+    }
+
+    /// The index among all items of the item at this place of a row. No contract speaks of it, as it is only a guess.
+    #[inline(always)]
+    pub(crate) fn index(&self, row: usize, place: usize) -> usize {
+        if row == 0 {
+            return place;
+        }
+        match self.ends.get(row - 1) {
+            Some(start) => start.wrapping_add(place),
+            None => place,
+        }
     }
 
     /// The number of finished rows.
@@ -136,7 +151,32 @@ fn total(lengths: &[usize]) -> usize {
     total
 }
 
+/// Appends `count` zeros to a vector.
+fn add_zeros(items: &mut Vec<u32>, count: usize) -> Result<(), AllocError>
+    ensures added { OnOk result (items.new.items ≡ items.old.items ++ replicate count 0) }
+    ensures err { OnErr result (items.new.items ≡ items.old.items) }
+{
+    items.reserve(count)?;
+    for _ in 0..count {
+        items.push_reserved(0);
+    }
+    Ok(())
+}
+
 impl Rows<u32> {
+    /// The index among all items of a number in a sorted row, if the number stands there.
+    #[inline(always)]
+    pub(crate) fn find(&self, row: usize, number: u32) -> Option<usize>
+        requires { row < length self.now.rows }
+        ensures { IsNonDecreasing (slice_index_or self.now.rows row []) → result ≡ None
+            → is_listed (slice_index_or self.now.rows row []) number ≡ false }
+    {
+        match self.row(row).binary_search(&number) {
+            Ok(place) => Some(self.index(row, place)),
+            Err(_) => None,
+        }
+    }
+
     /// Rows of zeros, with these lengths.
     pub(crate) fn of_lengths(alloc: Global, lengths: &[usize]) -> Result<Rows<u32>, AllocError>
         ensures { IfOk result (λ made. made.rows ≡ map (λ n. replicate n 0) lengths.now) }
@@ -154,9 +194,7 @@ impl Rows<u32> {
         ensures { OnOk result
             (self.new ≡ record self.old { begun = self.old.begun ++ replicate count 0 }) }
     {
-        for _ in 0..count {
-            self.push(0)?;
-        }
+        add_zeros(&mut self.items, count)?;
         Ok(())
     }
 

@@ -6,7 +6,7 @@ use Rattle.std.specs.Prelude.{slice_get, slice_index_or}
 use Rattle.match_model.proofs.Prefixes.{slice_get_push_parts}
 use Rattle.match_pool.specs.Done.{Each}
 
--- if n items have the property and one more item has it for number n, all n + 1 items have it
+-- if n items have the property and one more item has it as item n, all n + 1 items have it
 pub each_push : {X : Type 0} (xs : List X) (n : ℕ) (x : X) (property : ℕ → X → Type 0) → Each xs n property → property n x → Each (xs ++ x ∷ []) (n + 1) property
 each_push {X = X} xs n x property each has = record { one_each = omega (arith, length-append xs (x ∷ []), each.one_each); has = λ i y at. one i y (slice_get_push_parts xs x i y at) }
   where

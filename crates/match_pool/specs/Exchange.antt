@@ -18,14 +18,15 @@ use Rattle.match_pool.specs.declared.exchange.Entry.TheVariants as entry
 use Rattle.match_pool.specs.declared.exchange.Found.{Found}
 use Rattle.match_pool.specs.declared.exchange.Found.TheVariants as found
 
--- the ledger, the receipt that its core refused, if it refused one, and the queues of desks that wait for room
+-- the ledger, the receipt that the ledger's core refused (if there was one), and the queues of desks that wait
+-- for room
 pub record Exchanged (P Q : Type 0) : Type 0 where
   pub ledger : Entries P Q
   pub out_of_step : Option Event
   pub waits : Waits
 
--- if the reply says that the event was entered, `told` is true of it: whether the desk's mailbox has more messages,
--- and which desk was woken
+-- if the event was entered, `told` holds for the two parts of the reply: whether the desk's mailbox has more
+-- messages, and which desk was woken
 abbrev pub IfMade : Entry → (Bool → Option ℕ → Type 0) → Type 0
 IfMade (entry.Made more woken) told = told more woken
 IfMade other told = Unit {0}
@@ -49,8 +50,8 @@ refused_receipt Spoiled = entry.Ended
 refused_receipt (Step cause) = entry.Refused
 refused_receipt (PutRefused cause) = entry.Refused
 
--- the number of a programme's desk, up to the greatest number of 32 bits; it comes after those of all residents'
--- desks
+-- the number of a programme's desk, up to the greatest number of 32 bits; all residents' desks have smaller
+-- numbers
 abbrev pub number_of_programme : Instance → ℕ → ℕ
 number_of_programme inst p = min (length inst.resident_lists + p) 4294967295
 

@@ -14,8 +14,8 @@ abbrev pub is_told : {X : Type 0} → Bool → Bool → Option X → Bool
 is_told closed stopped (Some trouble) = true
 is_told closed stopped None = closed || stopped
 
--- The fault that is reported for a trouble. A receipt out of step gives none here, since its report also needs the
--- journal before it.
+-- The fault that is reported for what ended a run early. For a receipt out of step it is none, since that report
+-- also needs the journal.
 abbrev pub fault_of : Option Trouble → Option RunFault
 fault_of (Some (Torn desk)) = Some (fault.Torn desk)
 fault_of (Some (MailGone desk)) = Some (fault.MailGone desk)

@@ -35,7 +35,7 @@ pub(crate) struct Reserve<M: Mailboxes> {
     entered: Vec<u64>,
 }
 
-// One function drops the whole reserve. So a caller that drops a reserve need not prove anything about its parts.
+// One function drops the whole reserve: callers prove nothing about its parts.
 impl<M: Mailboxes> Drop for Reserve<M> {
     fn drop(self) {
         let Reserve {

@@ -53,7 +53,7 @@ pub(crate) enum Entry {
     Gone,
 }
 
-// One function drops the whole exchange. So a caller that drops an exchange need not prove anything about its parts.
+// One function drops the whole exchange: callers prove nothing about its parts.
 impl<J: ExchangeIdentity, M: Mailboxes> Drop for Exchange<J, M> {
     fn drop(self) {
         let Exchange {
@@ -106,8 +106,8 @@ impl<J: ExchangeIdentity, M: Mailboxes> Exchange<J, M> {
         }
     }
 
-    /// Notes that a worker has taken a programme's desk, which so no longer waits for room. The first answer says
-    /// whether messages wait at the desk. The second says whether the desk was called because there is room.
+    /// Notes that a worker has taken a programme's desk. The desk then no longer waits for room. The first answer
+    /// says whether messages wait at the desk. The second says whether the desk was called because there is room.
     pub(crate) fn programme_comes(
         &mut self,
         inst: &Instance,
@@ -206,6 +206,12 @@ impl<J: ExchangeIdentity, M: Mailboxes> Exchange<J, M> {
         }
     }
 
+    /// A guess of the rank of the offer that the resident took last.
+    #[inline(always)]
+    pub(crate) fn taken_rank(&self, resident: ResidentNo) -> u32 {
+        self.ledger.core().taken_rank(resident)
+    }
+
     /// Enters a hear, which makes room in its mailbox. If the core refuses the hear, the ledger accepts no further
     /// event.
     pub(crate) fn hear(
@@ -279,7 +285,7 @@ impl<J: ExchangeIdentity, M: Mailboxes> Exchange<J, M> {
         }
     }
 
-    /// Some event that may follow the journal, as the desk that makes it. If this event is the close, it is entered.
+    /// The desk of some event that may follow the journal. If this event is the close, it is entered.
     pub(crate) fn close_or_find(
         &mut self,
         inst: &Instance,

@@ -101,7 +101,7 @@ impl<J: WorkersIdentity, T> InnerLock<J, T> {
         }
     }
 
-    /// Gets the lock. The thread naps in this room while another thread holds the lock.
+    /// Takes the lock. The thread naps in this room while another thread holds the lock.
     #[inline(always)]
     pub(crate) fn lock<R: Wait>(
         &self,
@@ -119,7 +119,7 @@ impl<J: WorkersIdentity, T> InnerLock<J, T> {
         }
     }
 
-    /// Gets the lock, and does not nap.
+    /// Takes the lock, and does not nap.
     pub(crate) fn lock_at_once<R: Wait>(
         &self,
         rt: &R,

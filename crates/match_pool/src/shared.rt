@@ -34,8 +34,7 @@ pub(crate) struct SharedState<'a, J: ExchangeIdentity + WorkersIdentity, M: Mail
     for_work: NapRoom,
 }
 
-// One function drops the whole shared state. So a caller that drops a shared state need not prove anything about its
-// parts.
+// One function drops the whole shared state: callers prove nothing about its parts.
 impl<'a, J: ExchangeIdentity + WorkersIdentity, M: Mailboxes, G: Gate> Drop
     for SharedState<'a, J, M, G> {
     fn drop(self) {

@@ -230,6 +230,7 @@ impl<'a, 'f, J: ExchangeIdentity + WorkersIdentity, M: Mailboxes, G: Gate, R: Wa
     }
 
     // Makes the programme's next offer, if the programme has a wish.
+    #[inline(always)]
     fn offer_next(&mut self, seat: &mut ProgrammeSeat<J, M>, programme: ProgrammeNo) -> Step {
         match seat.wish(self.inst) {
             Some(resident) => self.offer(seat, programme, resident),
@@ -263,32 +264,33 @@ impl<'a, 'f, J: ExchangeIdentity + WorkersIdentity, M: Mailboxes, G: Gate, R: Wa
     // Takes an offer out of the mailbox, enters the take, and decides about the offer.
     fn take(&mut self, seat: &mut ResidentSeat<J, M>, resident: ResidentNo) -> Step {
         let desk = Desk::Resident(resident);
-        let again = desk;
+        let same_desk = desk;
         self.list_woken();
         let programme = match seat.take() {
             Heard::Got(note) => note.programme,
             heard => return self.after_look(heard, desk),
         };
-        self.pass(again);
+        self.pass(same_desk);
         let mut exchange = self.shared.lock_exchange(self.rt, &mut self.inner);
         let entry = exchange
             .value()
             .take(self.inst, &mut self.tally, resident, programme);
+        let guess = exchange.value().taken_rank(resident);
         self.inner.give_back(exchange);
-        seat.decide(self.inst);
+        seat.decide(self.inst, guess);
         self.after_receipt(entry)
     }
 
     // Takes an answer out of the mailbox, and enters the hear.
     fn hear(&mut self, seat: &mut ProgrammeSeat<J, M>, programme: ProgrammeNo) -> Step {
         let desk = Desk::Programme(programme);
-        let again = desk;
+        let same_desk = desk;
         self.list_woken();
         let note = match seat.hear() {
             Heard::Got(note) => note,
             heard => return self.after_look(heard, desk),
         };
-        self.pass(again);
+        self.pass(same_desk);
         let AnswerNote { resident, kind } = note;
         let mut exchange = self.shared.lock_exchange(self.rt, &mut self.inner);
         let entry = exchange
@@ -348,9 +350,9 @@ impl<'a, 'f, J: ExchangeIdentity + WorkersIdentity, M: Mailboxes, G: Gate, R: Wa
                 .fail(self.rt, &mut self.inner, Trouble::MailGone(desk));
             return LEAVE;
         }
-        let again = desk;
+        let same_desk = desk;
         let mut exchange = self.shared.lock_exchange(self.rt, &mut self.inner);
-        let waits = exchange.value().has_mail(self.inst, again);
+        let waits = exchange.value().has_mail(self.inst, same_desk);
         self.inner.give_back(exchange);
         if !waits {
             return Step::Stay { more: false };
@@ -441,7 +443,7 @@ impl<'a, 'f, J: ExchangeIdentity + WorkersIdentity, M: Mailboxes, G: Gate, R: Wa
         self.or_search(next)
     }
 
-    // The desk that was found, or else the desk that a search finds. Once the run ends, the worker's token comes back
+    // The desk that was found, or else one that a search finds. Once the run ends, the worker's token comes back
     // instead.
     fn or_search(&mut self, found: TurnOf<J>) -> Result<Hand<J>, Looking<J>> {
         match found {

@@ -1,4 +1,4 @@
--- Exactly one answer is the first true answer, and which one the code returns.
+-- Only one answer can be the first true answer, and the code returns this answer.
 use Rattle.std.proofs.Common.{◌≡◌, ℕ, ◌<◌, ◌≤◌, inl, inr, List, arith, refl, sym, ap, ◌∙◌, subst}
 use Rattle.std.specs.Prelude.{Option, Some, None}
 use Rattle.std.proofs.lemmas.Bool.{cases_lt}
@@ -54,7 +54,7 @@ one_first inst mine theirs m r p a b h k = elim (cases_lt (turn a) (turn b)) [
   ]
 ]
 
--- if a placement is stable, the first true answer is not that the two block it
+-- if a placement is stable, the first true answer is not `Blocking`
 pub never_blocking : (inst : Instance) (mine theirs : List ℕ) (m : List (Option ℕ)) (r p : ℕ) (a : Why) → IsFirst inst mine theirs m r p a →
     IsStable inst m → a ≡ Blocking → ⊥
 never_blocking inst mine theirs m r p a h stable e = stable.nothing_blocks r p (subst (Holds inst mine theirs m r p) e h.holds)
@@ -83,8 +83,8 @@ none_of_five inst is mine theirs m r p w a not has (PrefersOwn own i j) l h =
 none_of_five inst is mine theirs m r p w a not has (Full i k q) l h = absurd (omega arith)
 none_of_five inst is mine theirs m r p w a not has Blocking l h = absurd (omega arith)
 
--- an acceptable pair that isn't matched, where resident r has no programme that stands before p, is left to the last
--- two answers
+-- for an acceptable pair that isn't matched, if resident r has no programme that stands before p, only the last two
+-- answers can be true
 pub asks : (inst : Instance) → IsInstance inst → (mine theirs : List ℕ) (m : List (Option ℕ)) (r p : ℕ) → AreListsOf inst r p mine theirs → IsResident inst r →
     Acceptable inst r p → (IsMemberOf m r p → ⊥) → ((own : ℕ) → IsMemberOf m r own → IsBefore mine p own) → Asks inst mine theirs m r p
 asks inst is mine theirs m r p w within a not has = record {
@@ -96,7 +96,7 @@ asks inst is mine theirs m r p w within a not has = record {
     would None e = tt
     would (Some own) e = resident_before inst r p mine theirs p own w within ((is.both_rank p r).0 a) (has own e)
 
--- if resident r has no programme, there is none that programme p would not stand before on the list
+-- a resident without a programme has no programme that stands before p
 pub before_none : (mine : List ℕ) (m : List (Option ℕ)) (r p : ℕ) → programme_of m r ≡ None → (own : ℕ) → IsMemberOf m r own → IsBefore mine p own
 before_none mine m r p none own is = absurd (cc)
 
@@ -108,7 +108,7 @@ before_unlisted mine m r p j o e has none own is =
     let at = (ranked mine p j e).0 in
     subst (IsBefore mine p) same (omega arith)
 
--- resident r has another programme, which does not stand before p on r's list
+-- if resident r's programme does not stand before p on r's list, no programme of r stands before p
 pub before_later : (mine : List ℕ) (m : List (Option ℕ)) (r p i j o : ℕ) → Some j ≡ rank mine p → programme_of m r ≡ Some o → Some i ≡ rank mine o → j ≤ i →
     (IsMemberOf m r p → ⊥) → (own : ℕ) → IsMemberOf m r own → IsBefore mine p own
 before_later mine m r p i j o e has f l not own is = elim (cases_lt (place mine p) (place mine own)) [
@@ -155,7 +155,7 @@ tells_full inst is mine theirs m r p a w within h stable wants =
     go (Full i l q) k none = tt
     go Blocking k none = stable.nothing_blocks r p k
 
--- if one of the two has withdrawn, the first true answer is that
+-- which answer is the first true answer of r and p, from what is known of the two
 module _ (inst : Instance) (mine theirs : List ℕ) (m : List (Option ℕ)) (r p : ℕ) where
   pub first_withdrawn : HasWithdrawn inst r p → IsFirst inst mine theirs m r p Withdrawn
   first_withdrawn h = record { holds = h; none_before = λ other l k. absurd (omega arith) }

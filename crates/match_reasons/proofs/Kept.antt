@@ -1,5 +1,4 @@
--- An instance's list has those items of the written list that pass a test. So the order of two members is the same on
--- both lists.
+-- An instance's list is the written list filtered by a test. So two members stand in the same order on both lists.
 use Rattle.std.proofs.Common.{◌≡◌, ℕ, ◌<◌, inl, inr, Bool, true, false, cond, List, [], ◌∷◌, length, arith, refl, sym, ap, ◌∙◌, subst}
 use Rattle.std.specs.Prelude.{if◌then◌else◌}
 use Rattle.std.specs.List.{filter}
@@ -28,8 +27,8 @@ lists_of_pair inst written r p h = record {
   of_programme = ap (λ (w : Written). list_at w.programme_lists p) h.lists;
 }
 
--- if a member passes the test and stands before another on a list, the member stands before the other among those who
--- pass
+-- a member who passes the test and stands before another member on a list also stands before that member on the
+-- filtered list
 pub kept_before : (f : ℕ → Bool) (ys : List ℕ) (x y : ℕ) → IsListed (filter f ys) x → place ys x < place ys y →
     place (filter f ys) x < place (filter f ys) y
 kept_before f [] x y l b = absurd (omega arith)
@@ -64,7 +63,7 @@ filter-none : (xs : List ℕ) → [] ≡ filter (λ x. false) xs
 filter-none [] = refl
 filter-none (x ∷ xs) = filter-none xs
 
--- the mutual part of a list has those items that pass a test; for a withdrawn owner no item passes
+-- the mutual part of a list is the list filtered by a test; for a withdrawn owner no item passes
 kept_at : (mine theirs : List (List ℕ)) (flags : List Bool) (i : ℕ) → i < length (remaining_lists mine flags) →
     (f : ℕ → Bool) × (list_at (mutual_lists (remaining_lists mine flags) theirs) i ≡ filter f (list_at mine i))
 kept_at mine theirs flags i l =
@@ -75,7 +74,7 @@ kept_at mine theirs flags i l =
     go true e = ((λ x. false), e ∙ filter-none (list_at mine i))
     go false e = ((λ x. is_listed (list_at theirs x) i), e)
 
--- the instance's lists of resident r and of programme p have those items of the written lists that pass a test
+-- the instance's list of resident r is r's written list filtered by a test, and so is programme p's
 pub resident_kept : (inst : Instance) (r p : ℕ) (mine theirs : List ℕ) → AreListsOf inst r p mine theirs → r < length inst.resident_lists →
     (f : ℕ → Bool) × (list_of_resident inst r ≡ filter f mine)
 resident_kept inst r p mine theirs w l =

@@ -1,4 +1,4 @@
--- Why good receipts that agree tell a stable placement.
+-- Why the placement in good receipts that agree is stable.
 use Rattle.std.proofs.Common.{◌≡◌, ℕ, inl, inr, Bool, true, false, List, length, arith, refl, sym, ap, ◌∙◌, subst}
 use Rattle.std.specs.Prelude.{Option, Some, None}
 use Rattle.std.proofs.lemmas.Bool.{cases_lt}
@@ -77,7 +77,7 @@ module _ (inst : Instance) (written : Written) (m : List (Option ℕ)) (members 
   is_member : (r p : ℕ) → IsListed (members p) r → IsMemberOf m r p
   is_member r p l = let told = (agree r p).member l in own_from_matched r p (programme_of m r) refl told.0 told.1
 
-  -- a programme's receipt tells as many members as the placement gives the programme
+  -- a programme's receipt has as many members as the placement gives the programme
   same_count : (p : ℕ) → member_count m p ≡ length (members p)
   same_count p =
       let most = different_among (members_of m p) (members p) (members_differ m p) (λ r l. told_member r p (member_from_listed m p r l)) in
@@ -109,8 +109,8 @@ module _ (inst : Instance) (written : Written) (m : List (Option ℕ)) (members 
           let before = programme_before inst s p _ _ s r (lists s p) (let one = is.one_list_each in omega arith) (acceptable s p e) (omega arith) in
           omega arith
 
-  -- what a resident would rather have by the lists of acceptable members, the resident would rather have by the list as
-  -- it was written
+  -- a programme that a resident would rather have by the instance's lists, the resident would also rather have by the
+  -- written list
   would_written : (r p : ℕ) (o : Option ℕ) → programme_of m r ≡ o → Acceptable inst r p → (IsMemberOf m r p → ⊥) → Prefers (list_of_resident inst r) p o →
       Prefers (list_at written.resident_lists r) p o
   would_written r p None e a n w = tt

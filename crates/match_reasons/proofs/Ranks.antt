@@ -1,4 +1,4 @@
--- What the rank of a member says about the member's place on a list.
+-- The rank of a member, and the member's place on a list.
 use Rattle.std.proofs.Common.{◌≡◌, ℕ, inl, inr, Bool, true, false, cond, List, length, arith, refl, sym}
 use Rattle.std.specs.Prelude.{Some, None}
 use Rattle.std.proofs.lemmas.Bool.{cases_lt}

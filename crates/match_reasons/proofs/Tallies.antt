@@ -53,7 +53,8 @@ last_other theirs m p r (Some k) h n = (
   ],
 )
 
--- resident r isn't a member of p, so the number and the last place stay as they are
+-- if resident r isn't a member of p, the number of members and the last place are still right after
+-- r
 pub IsSoFar-other : (theirs : List ℕ) (m : List (Option ℕ)) (p r members : ℕ) (last : Option ℕ) → r < length m → IsSoFar theirs m p r members last →
     (IsMemberOf m r p → ⊥) → IsSoFar theirs m p (r + 1) members last
 IsSoFar-other theirs m p r members last l h n = record {
@@ -89,7 +90,7 @@ last_more theirs m p r (Some k) h is = (
       | inr c ↦ (h.0.0, h.0.1, (let e = h.0.2 in omega arith), let b = h.0.3 in omega arith)
     ]
 
--- resident r is a member of p, so the number grows by 1 and the last place may grow
+-- if resident r is a member of p, the number of members grows by 1, and the last place may grow
 pub IsSoFar-more : (theirs : List ℕ) (m : List (Option ℕ)) (p r members : ℕ) (last : Option ℕ) → r < length m → IsSoFar theirs m p r members last →
     IsMemberOf m r p → IsSoFar theirs m p (r + 1) (members + 1) (Some (max (unwrap_or last 0) (place theirs r)))
 IsSoFar-more theirs m p r members last l h is = record {
@@ -102,7 +103,7 @@ IsSoFar-more theirs m p r members last l h is = record {
   last_is = last_more theirs m p r last h.last_is is;
 }
 
--- after all residents, the number and the last place are those of the whole placement
+-- after all residents, the number of members and the last place are right for the whole placement
 pub IsSoFar-all : (theirs : List ℕ) (m : List (Option ℕ)) (p n members : ℕ) (last : Option ℕ) → n ≡ length m → IsSoFar theirs m p n members last →
     IsTaken theirs m p (record { members = members; last = last })
 IsSoFar-all theirs m p n members last all h = record {
@@ -118,7 +119,8 @@ IsSoFar-all theirs m p n members last all h = record {
 pub few_so_far : (theirs : List ℕ) (m : List (Option ℕ)) (p n members : ℕ) (last : Option ℕ) → n ≤ length m → IsSoFar theirs m p n members last → members ≤ n
 few_so_far theirs m p n members last l h = let are = h.members_are in omega (arith, are, count_by-le-length (holds p) (take n m), length-take-le n m l)
 
--- the members and the last place with one more member, who stands at this place of the programme's list
+-- the number of members and the last place after one more member, who stands at this place of the
+-- programme's list
 abbrev pub with_member : Taken → ℕ → Taken
 with_member t at = record { members = t.members + 1; last = Some (max (unwrap_or t.last 0) at) }
 
@@ -135,14 +137,14 @@ AreSoFar-none written m n p t at =
     let same : nobody_yet ≡ t = sym (get_or-replicate n p nobody_yet t w) ∙ get_or_from_slice_get (replicate n nobody_yet) p t t at in
     subst (λ (z : Taken). IsSoFar (list_at written.programme_lists p) m p 0 z.members z.last) same (IsSoFar-none (list_at written.programme_lists p) m p)
 
--- if resident r is a member of none of the programmes, what was noted is right for one resident more
+-- if resident r is a member of none of the programmes, the notes are right for one more resident
 pub AreSoFar-other : (written : Written) (m : List (Option ℕ)) (r : ℕ) (takens : List Taken) → r < length m → AreSoFar written m r takens →
     ((p : ℕ) → p < length takens → IsMemberOf m r p → ⊥) → AreSoFar written m (r + 1) takens
 AreSoFar-other written m r takens l h n p t at =
     IsSoFar-other (list_at written.programme_lists p) m p r t.members t.last l (h p t at) (n p (slice_get_within takens p t at))
 
--- if resident r is a member of programme p, what was noted is right for one resident more once p's note has this
--- member
+-- if resident r is a member of programme p, the notes are right for one more resident after r is added to p's
+-- note
 pub AreSoFar-more : (written : Written) (m : List (Option ℕ)) (r p : ℕ) (takens : List Taken) (t : Taken) → r < length m → AreSoFar written m r takens →
     slice_get takens p ≡ Some t → IsMemberOf m r p → AreSoFar written m (r + 1) (set takens p (with_member t (place (list_at written.programme_lists p) r)))
 AreSoFar-more written m r p takens t l h at is q u here = elim (cases_eq q p) [

@@ -11,39 +11,43 @@ use Rattle.match_reasons.specs.declared.reason.Why.TheVariants.{Withdrawn, NotRa
 
 -- Of one receipt.
 
--- what `full` tells of the places: there are none, or the last rank told is before the resident's
+-- what the answer `full` says of the programme's places: the programme has none, or its last member
+-- ranks before the resident
 abbrev pub IsLastTold : ℕ → Option ℕ → ℕ → Type 0
 IsLastTold rank None quota = quota ≡ 0
 IsLastTold rank (Some last) quota = last < rank
 
--- the reason can be that for a programme which the resident would rather have: `Withdrawn`, `NotRanked`, or `Full`
--- with all places gone to others
+-- the reason is possible for a programme that the resident would rather have: `Withdrawn`, `NotRanked`, or `Full`
+-- with all places gone to other residents
 abbrev pub IsPassed : Why → Type 0
 IsPassed Withdrawn = Unit {0}
 IsPassed NotRanked = Unit {0}
 IsPassed (Full rank last quota) = IsLastTold rank last quota
 IsPassed other = ⊥
 
--- the reason can be that for a programme after the resident's own: `Withdrawn`, `NotRanked` or `PrefersOwn`
+-- the reason is possible for a programme that comes after the resident's own programme: `Withdrawn`,
+-- `NotRanked` or `PrefersOwn`
 abbrev pub IsPast : Why → Type 0
 IsPast Withdrawn = Unit {0}
 IsPast NotRanked = Unit {0}
 IsPast (PrefersOwn own own_rank rank) = Unit {0}
 IsPast other = ⊥
 
--- the reason for programme p can stand in the receipt of a resident with this list and this own programme
+-- the reason for programme p is possible in the receipt of a resident with this list, whose own programme
+-- is `own`
 pub record CanStandFor (mine : List ℕ) (own : Option ℕ) (p : ℕ) (why : Why) : Type 0 where
   pub at : own ≡ Some p → why ≡ Matched
   pub before : Prefers mine p own → (own ≡ Some p → ⊥) → IsPassed why
   pub after : (q : ℕ) → own ≡ Some q → IsBefore mine q p → IsPast why
 
--- what a good receipt tells of a resident with this list: the own programme is on it, and each reason can stand there
+-- what a good receipt shows of a resident with this list: the resident's own programme is on the list, and each
+-- reason is possible
 pub record IsGoodResident (mine : List ℕ) (own : Option ℕ) (why : ℕ → Why) : Type 0 where
   pub own_listed : (q : ℕ) → own ≡ Some q → IsListed mine q
   pub reasons : (p : ℕ) → IsListed mine p → CanStandFor mine own p (why p)
 
--- what a good receipt tells of a programme with this list and this quota: no more members than the quota, each on the
--- list and told once
+-- what a good receipt shows of a programme with this list and this quota: at most as many members as the quota, all
+-- of them different and on the list
 pub record IsGoodProgramme (theirs members : List ℕ) (quota : ℕ) : Type 0 where
   pub fits : length members ≤ quota
   pub none_twice : HasNoRepeats members
@@ -51,20 +55,21 @@ pub record IsGoodProgramme (theirs members : List ℕ) (quota : ℕ) : Type 0 wh
 
 -- Of a pair.
 
--- the last rank told is that of the last of these members; none, if there are no members
+-- the rank of the last of these members on the list; none if there are no members
 abbrev pub IsLastOfMembers : List ℕ → List ℕ → Option ℕ → Type 0
 IsLastOfMembers theirs members None = (s : ℕ) → ¬ IsListed members s
 IsLastOfMembers theirs members (Some last) =
     ((s : ℕ) × IsListed members s × (place theirs s ≡ last)) × ((s : ℕ) → IsListed members s → place theirs s ≤ last)
 
--- `full` fits the programme's receipt: r's rank, the last rank and the quota are those of its list, all places are filled
+-- the answer `full` fits the programme's receipt: it has r's rank, the last member's rank and the quota, and all places
+-- are filled
 pub record FitsFull (theirs members : List ℕ) (places r rank : ℕ) (last : Option ℕ) (quota : ℕ) : Type 0 where
   pub ranked : rank_in theirs r ≡ Some rank
   pub last_is : IsLastOfMembers theirs members last
   pub quota_is : quota ≡ places
   pub all_filled : length members ≡ places
 
--- the reason that resident r's receipt has for programme p fits what p's receipt tells
+-- the reason in resident r's receipt for programme p fits p's receipt
 abbrev pub Fits : Instance → List ℕ → List ℕ → ℕ → ℕ → Why → Type 0
 Fits inst theirs members r p Withdrawn = HasWithdrawn inst r p
 Fits inst theirs members r p NotRanked = ¬ IsListed theirs r
@@ -80,8 +85,8 @@ pub record Agree (inst : Instance) (mine theirs members : List ℕ) (r p : ℕ) 
   pub unranked : IsListed mine p → ¬ IsListed theirs r → ¬ HasWithdrawn inst r p → why ≡ NotRanked
   pub member : IsListed members r → IsListed mine p × (why ≡ Matched)
 
--- If each member's receipt is good and each pair's receipts agree, the placement that they tell is stable over the lists
--- that they tell.
+-- If each member's receipt is good and each pair's receipts agree, the placement in these receipts is stable for the
+-- lists in these receipts.
 abbrev pub PairsLaw : Type 0
 PairsLaw =
     (inst : Instance) (written : Written) (m : List (Option ℕ)) (members : ℕ → List ℕ) (why : ℕ → ℕ → Why) →
@@ -111,8 +116,8 @@ HonestLaw =
     ((r p : ℕ) → IsFirst inst (list_at written.resident_lists r) (list_at written.programme_lists p) m r p (why r p)) →
     AllAgree inst written m members why
 
--- If `full` with a last rank fits a good receipt of a programme, the programme's list has at least as many ranks up
--- to this last one as the programme has places.
+-- If an answer `full` with a last rank fits a programme's good receipt, the programme's list has at least as many
+-- ranks up to this last rank as the programme has places.
 abbrev pub RoomLaw : Type 0
 RoomLaw =
     (theirs members : List ℕ) (places r rank last quota : ℕ) →

@@ -55,7 +55,7 @@ Holds inst mine theirs m r p (PrefersOwn own own_rank rank) = HasBetter mine m r
 Holds inst mine theirs m r p (Full rank last_rank quota) = IsFullBefore inst theirs m r p rank last_rank quota
 Holds inst mine theirs m r p Blocking = Blocks inst m r p
 
--- the order in which answers are tried
+-- the turn at which an answer is tried, from 0
 abbrev pub turn : Why → ℕ
 turn Withdrawn = 0
 turn NotListed = 1

@@ -1,4 +1,4 @@
-//! How it is found why a placement does not give a programme to a resident.
+//! How the code finds why a placement does not give a programme to a resident.
 ghost use Rattle.std.specs.Prelude.{◌≡◌, ◌≢◌, length, MatchOption, IfSome};
 ghost use Rattle.match_model.specs.Instance.{IsProgramme, IsResident, list_at};
 ghost use Rattle.settle_law.specs.Stable.{IsStable};
@@ -39,7 +39,7 @@ pub fn why(
     ensures full { IsStable listed.now.instance sheet.now
         → Wants listed.now.instance sheet.now resident programme → TellsFull result }
 {
-    // Only the proof needs this call: by its clause the instance was made from the lists.
+    // For the proof alone: the instance was made from the lists.
     let _inst = listed.instance();
     first_reason(listed, sheet, taken, resident, programme)
 }

@@ -2,7 +2,8 @@
 
 ghost use Rattle.match_reasons.specs.Pairs.{HonestLaw, PairsLaw, RoomLaw};
 
-/// If each member's receipt is good and each pair's receipts agree, the placement that they tell is stable.
+/// If each member's receipt is good and each pair's receipts agree, the placement in the receipts is
+/// stable.
 pub fn law_pairs()
     ensures { PairsLaw }
 {}

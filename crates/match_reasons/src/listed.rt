@@ -41,7 +41,7 @@ impl<'a> Listed<'a> {
         ensures whole { IsInstance self.now.instance }
         ensures lists { AreItsLists self.now }
     {
-        // Only the proof needs this call: by its clause the instance is well formed.
+        // For the proof alone: the instance is well formed.
         let _residents = self.inst.residents();
         self.inst
     }

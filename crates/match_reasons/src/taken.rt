@@ -10,7 +10,7 @@ use match_model::{Assignment, ProgrammeNo, ResidentNo, WrittenLists};
 use std::alloc::{AllocError, Global};
 
 /// How many members a programme has in a placement, and at which place of the programme's list, as it was written, its
-/// last-ranked member stands. A member who isn't on the list counts as behind all who are on it.
+/// last-ranked member stands. A member who isn't on the list counts as standing behind all members who are.
 #[derive(Clone, Copy, Debug, Default, PartialEq, Eq)]
 pub struct Taken {
     /// How many members the programme has.
@@ -91,7 +91,7 @@ pub fn places_taken(listed: &Listed, sheet: &Assignment, programme: ProgrammeNo)
     taken
 }
 
-/// How the places of each of this many programmes are taken. This call, too, makes one walk over the placement.
+/// How the places of each of this many programmes are taken. The call makes one walk over the placement.
 pub fn all_places_taken(
     alloc: Global,
     listed: &Listed,

@@ -19,7 +19,7 @@ use Rattle.docket.specs.declared.fault.DocketFault.TheVariants.{TooManyRecords, 
 use Rattle.docket.proofs.SoundFacts.{both_none}
 use Rattle.docket.proofs.DeclarationFacts.{programmes_of-if, residents_of-if, quotas_of-if}
 
--- the letters of three kinds of row in ASCII: `Q` declares a programme, `P` has a programme's list, and `R` declares a
+-- the ASCII letters of three kinds of row: `Q` declares a programme, `P` has a programme's list, and `R` declares a
 -- resident with a list
 abbrev pub quota_letter : ℕ
 quota_letter = 81

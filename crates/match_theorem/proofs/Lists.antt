@@ -108,7 +108,7 @@ flags_each : (side : List ℕ) (names : List (List ℕ)) (rows : List Fields) �
 unfolding withdrawn_of
 flags_each side names rows = length-map names (λ (name : List ℕ). list_any (is_withdrawal_of side name) rows)
 
--- what a docket's records hand in to a builder within these limits
+-- the input that a docket's records give to a builder with these limits
 abbrev draft_within : Limits → List Fields → Draft
 draft_within lim rows = record (draft_of rows) { limits = lim }
 
@@ -147,15 +147,16 @@ pairs_within : (lim : Limits) (rows : List Fields) → pairs_fault lim rows ≡ 
 unfolding pairs_fault
 pairs_within lim rows none = search (rules, unless_none (nat_le (pair_count (instance_of (draft_of rows))) (most_pairs lim)) (Model (length rows) model.TooManyPairs) none)
 
--- the first pass finds no fault in the records, and what they hand in to a builder is a draft and
--- an instance within the limits
+-- the first pass finds no fault in the records, and their input to a builder is valid and gives an
+-- instance within the limits
 pub record AreSound (lim : Limits) (rows : List Fields) : Type 0 where
   pub reading : first_from (reading_fault lim) [] rows ≡ None
   pub draft : IsDraft (record (draft_of rows) { limits = lim })
   pub few : pair_count (instance_of (draft_of rows)) ≤ most_pairs lim
   pub instance : IsInstance (instance_of (draft_of rows))
 
--- if no record has a fault in the first pass's two tests, none has one in the first of these tests
+-- if no record has a fault in either of the first pass's two tests, none has a fault in the first
+-- test
 reading_sound : (lim : Limits) (before rows : List Fields) → first_from (first_pass_fault lim) before rows ≡ None → first_from (reading_fault lim) before rows ≡ None
 unfolding first_from
 reading_sound lim before [] h = refl

@@ -1,4 +1,4 @@
--- The text of a sheet, read from the docket and read from the market that the bytes describe.
+-- The text of a sheet is the same by the definitions of a docket and by those of a market.
 use Rattle.std.proofs.Common.{◌≡◌, ℕ, List, [], ◌∷◌, ◌++◌, Option, Some, None, refl, ap, ◌∙◌}
 use Rattle.std.specs.Prelude.{length}
 use Rattle.std.specs.List.{flat_map, range_with_len}
@@ -14,13 +14,13 @@ flat_map_same : (f g : ℕ → List ℕ) (xs : List ℕ) → ((x : ℕ) → f x 
 flat_map_same f g [] h = refl
 flat_map_same f g (x ∷ xs) h = ap (λ (t : List ℕ). t ++ flat_map f xs) (h x) ∙ ap (λ (t : List ℕ). g x ++ t) (flat_map_same f g xs h)
 
--- a resident's row by the docket is the resident's row by the market
+-- a resident's row in the sheet of the docket is the resident's row in the sheet of the market
 same_row : (bytes : List ℕ) (r : ℕ) (o : Option ℕ) → mark_row (docket_of bytes) r o ≡ place_row (market_of bytes) r o
 unfolding mark_row resident_name programme_name
 same_row bytes r None = refl
 same_row bytes r (Some p) = refl
 
--- the text of the sheet by the docket is the text of the sheet by the market
+-- the sheet of the docket is the sheet of the market
 pub same_sheet : (bytes : List ℕ) (m : List (Option ℕ)) → sheet_text (docket_of bytes) m ≡ market_sheet (market_of bytes) m
 unfolding sheet_text programme_row programme_name
 same_sheet bytes m =

@@ -1,5 +1,5 @@
--- What a match wrote, as laws. Each law is proved as the contract of a function with a like name: `MatchLaw` as the
--- contract of `law_match`.
+-- Laws about what a match wrote. Each law is proved as the contract of a function with a like name: `MatchLaw` as
+-- the contract of `law_match`.
 use Rattle.std.specs.Prelude.{◌≡◌, ℕ, Option, Some, List, []}
 use Rattle.match_model.specs.declared.limits.Limits.TheVariants.{National}
 use Rattle.command_line.specs.declared.options.MatchOptions.{MatchOptions}
@@ -15,7 +15,7 @@ pub record WritesSheet (bytes : List ℕ) (o : MatchOptions) (old new : Option (
   pub no_more : o.journal ≡ Absent → journal ≡ []
   pub writes : WritesResult (market_of bytes) journal old new
 
--- if a match over the docket with these bytes wrote what it has to write, it wrote the sheet of the docket's result
+-- if a match over the docket with these bytes met its contract, it wrote the sheet of the docket's result
 abbrev pub MatchLaw : Type 0
 MatchLaw =
     (bytes : List ℕ) (o : MatchOptions) (old new : Option (List ℕ)) →

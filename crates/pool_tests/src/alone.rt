@@ -8,7 +8,7 @@ use test_support::events::{A, B, HOLD, RELEASE, X, Y, Z, answer, hear, offer, ta
 use test_support::instances::{Members, TWO_PLACES};
 
 // The journal of a run by one worker over `TWO_PLACES`, through full mailboxes. The worker visits residents before
-// programmes, and of these the one that was woken last. Programmes that are woken only for a hold come last.
+// programmes, and on each side the desk that was woken last. Programmes that were woken only for a hold come last.
 fn journal_by_one() -> [Event; 19] {
     [
         offer(A, X),
@@ -41,8 +41,8 @@ pub(crate) fn is_by_one(journal: &[Event]) -> bool {
 #[test]
 fn one_worker_is_repeated_to_the_event(rt: HostRuntime) -> Result<(), Fail> {
     for _ in 0..10 {
-        let told = ran(rt, rt.alloc(), TWO_PLACES, Capacity::Full, 1, &OpenGate)?;
-        assert!(rt; is_by_one(told.journal.as_slice()));
+        let outcome = ran(rt, rt.alloc(), TWO_PLACES, Capacity::Full, 1, &OpenGate)?;
+        assert!(rt; is_by_one(outcome.journal.as_slice()));
     }
     Ok(())
 }
@@ -52,7 +52,7 @@ const TWO_PAIRS: Members = (&[(1, &[0]), (1, &[1])], &[&[0], &[1]]);
 
 #[test]
 fn what_a_visit_woke_comes_before_any_programme(rt: HostRuntime) -> Result<(), Fail> {
-    let told = ran(rt, rt.alloc(), TWO_PAIRS, Capacity::Full, 1, &OpenGate)?;
+    let outcome = ran(rt, rt.alloc(), TWO_PAIRS, Capacity::Full, 1, &OpenGate)?;
     let wanted = [
         offer(A, X),
         take(X, A),
@@ -61,15 +61,15 @@ fn what_a_visit_woke_comes_before_any_programme(rt: HostRuntime) -> Result<(), F
         take(Y, B),
         answer(Y, B, HOLD),
     ];
-    for (event, other) in told.journal.iter().zip(&wanted) {
+    for (event, other) in outcome.journal.iter().zip(&wanted) {
         assert!(rt; event == other, "{event:?} for {other:?}");
     }
-    assert!(rt; told.journal.len() == 9);
+    assert!(rt; outcome.journal.len() == 9);
     Ok(())
 }
 
 // Markets whose mailboxes have room for one message. In each a programme waits for room in a resident's mailbox,
-// while an answer of another resident waits for the programme. When there is room and the programme is called, it
+// while an answer of another resident waits for the programme. When there is room, the programme is called: it
 // offers first, and then hears that answer.
 const CALLED: [(Members, Event, Event); 3] = [
     (
@@ -139,9 +139,9 @@ fn is_followed(journal: &[Event], first: &Event, next: &Event) -> bool {
 #[test]
 fn a_called_programme_offers_first_and_hears_then(rt: HostRuntime) -> Result<(), Fail> {
     for (members, offered, heard) in CALLED {
-        let told = ran(rt, rt.alloc(), members, Capacity::Each(1), 1, &OpenGate)?;
+        let outcome = ran(rt, rt.alloc(), members, Capacity::Each(1), 1, &OpenGate)?;
         assert!(rt;
-            is_followed(&told.journal, &offered, &heard),
+            is_followed(&outcome.journal, &offered, &heard),
             "{offered:?}, {heard:?}"
         );
     }
@@ -204,9 +204,9 @@ const REFUSED_AGAIN: [(Members, Event, Event); 2] = [
 #[test]
 fn a_called_programme_that_is_refused_hears(rt: HostRuntime) -> Result<(), Fail> {
     for (members, before, heard) in REFUSED_AGAIN {
-        let told = ran(rt, rt.alloc(), members, Capacity::Each(1), 1, &OpenGate)?;
+        let outcome = ran(rt, rt.alloc(), members, Capacity::Each(1), 1, &OpenGate)?;
         assert!(rt;
-            is_followed(&told.journal, &before, &heard),
+            is_followed(&outcome.journal, &before, &heard),
             "{before:?}, {heard:?}"
         );
     }

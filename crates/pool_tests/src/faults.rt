@@ -11,8 +11,8 @@ use test_gates::gates::{AfterAnother, Counting};
 use test_support::events::{A, B, DECLINE, HOLD, RELEASE, X, Y, Z, hear, take};
 use test_support::instances::{Members, TWO_BY_TWO, TWO_PLACES, has_places, made};
 
-// What a run with this number of workers returns if one mailbox gives a wrong answer: its fault, or whether the run
-// closed with each resident at the expected programme.
+// The outcome of a run with this number of workers in which one mailbox gives a wrong answer: the run's fault, or
+// whether the run closed with each resident at the expected programme.
 fn told_by<G: Gate + Sync, R: Threads + Wait + Sync + Send + Copy>(
     rt: R,
     alloc: Global,
@@ -85,8 +85,8 @@ fn losing() -> [(Slip, Desk); 8] {
 }
 
 // Whether a run has the fault that the other end of this desk's mailbox is gone.
-fn is_gone(told: &Result<bool, RunFault>, desk: &Desk) -> bool {
-    match told {
+fn is_gone(outcome: &Result<bool, RunFault>, desk: &Desk) -> bool {
+    match outcome {
         Err(RunFault::MailGone(gone)) => gone == desk,
         _ => false,
     }
@@ -98,9 +98,9 @@ fn tells_whose_mailbox_is_gone(rt: HostRuntime) {
         for cap in CAPACITIES {
             for workers in 1..=4 {
                 let gate = Counting::new();
-                let told = told_by(rt, rt.alloc(), LARGER, (cap, workers), &gate, slip);
+                let outcome = told_by(rt, rt.alloc(), LARGER, (cap, workers), &gate, slip);
                 assert!(rt;
-                    is_gone(&told, &desk),
+                    is_gone(&outcome, &desk),
                     "{slip:?}, {cap:?}, {workers} workers"
                 );
             }
@@ -130,8 +130,8 @@ fn lasting() -> [(Slip, Desk); 8] {
 }
 
 // Whether a run has the fault that this desk is torn.
-fn is_torn(told: &Result<bool, RunFault>, desk: &Desk) -> bool {
-    match told {
+fn is_torn(outcome: &Result<bool, RunFault>, desk: &Desk) -> bool {
+    match outcome {
         Err(RunFault::Torn(torn)) => torn == desk,
         _ => false,
     }
@@ -143,9 +143,9 @@ fn tells_the_desk_that_is_left_pending(rt: HostRuntime) {
         for cap in CAPACITIES {
             for workers in 1..=4 {
                 let gate = Counting::new();
-                let told = told_by(rt, rt.alloc(), LARGER, (cap, workers), &gate, slip);
+                let outcome = told_by(rt, rt.alloc(), LARGER, (cap, workers), &gate, slip);
                 assert!(rt;
-                    is_torn(&told, &desk),
+                    is_torn(&outcome, &desk),
                     "{slip:?}, {cap:?}, {workers} workers"
                 );
             }
@@ -153,14 +153,14 @@ fn tells_the_desk_that_is_left_pending(rt: HostRuntime) {
     }
 }
 
-// A slip in which the resident's first take gives an offer of this programme, with the take that the worker then
+// A slip in which the resident's first take gives an offer of this programme, and the take that the worker then
 // tries to enter.
 fn offer_of(resident: ResidentNo, programme: ProgrammeNo) -> (Slip, Event) {
     let slip = TakeSlip::Gives(OfferNote { programme });
     (Slip::Take(resident, 0, slip), take(resident, programme))
 }
 
-// A slip in which the programme's look with this number gives this answer, with the hear that the worker then tries
+// A slip in which the programme's look with this number gives this answer, and the hear that the worker then tries
 // to enter.
 fn answer_of(
     programme: ProgrammeNo,
@@ -190,10 +190,10 @@ fn out_of_step() -> [(Slip, Event); 8] {
     ]
 }
 
-// Whether a run is out of step at this receipt, and its journal has exactly the events that the gate counted, and no
-// close.
-fn is_out_of_step(told: &Result<bool, RunFault>, gate: &Counting, receipt: &Event) -> bool {
-    match told {
+// Whether a run is out of step at this receipt, with a journal of exactly the events that the gate counted, without
+// a close.
+fn is_out_of_step(outcome: &Result<bool, RunFault>, gate: &Counting, receipt: &Event) -> bool {
+    match outcome {
         Err(RunFault::OutOfStep { journal, event }) => {
             event == receipt
                 && journal.len() as u64 == gate.count_all()
@@ -209,9 +209,9 @@ fn tells_the_receipt_that_is_out_of_step(rt: HostRuntime) {
         for cap in CAPACITIES {
             for workers in 1..=4 {
                 let gate = Counting::new();
-                let told = told_by(rt, rt.alloc(), LARGER, (cap, workers), &gate, slip);
+                let outcome = told_by(rt, rt.alloc(), LARGER, (cap, workers), &gate, slip);
                 assert!(rt;
-                    is_out_of_step(&told, &gate, &receipt),
+                    is_out_of_step(&outcome, &gate, &receipt),
                     "{slip:?}, {cap:?}, {workers} workers"
                 );
             }
@@ -220,8 +220,8 @@ fn tells_the_receipt_that_is_out_of_step(rt: HostRuntime) {
 }
 
 // Whether a run is out of step at a receipt that already stands in its journal.
-fn is_repeated(told: &Result<bool, RunFault>, gate: &Counting) -> bool {
-    match told {
+fn is_repeated(outcome: &Result<bool, RunFault>, gate: &Counting) -> bool {
+    match outcome {
         Err(RunFault::OutOfStep { journal, event }) => {
             journal.contains(event) && journal.len() as u64 == gate.count_all()
         }
@@ -239,9 +239,9 @@ fn takes_no_message_twice(rt: HostRuntime) {
         for cap in CAPACITIES {
             for workers in 1..=4 {
                 let gate = Counting::new();
-                let told = told_by(rt, rt.alloc(), LARGER, (cap, workers), &gate, slip);
+                let outcome = told_by(rt, rt.alloc(), LARGER, (cap, workers), &gate, slip);
                 assert!(rt;
-                    is_repeated(&told, &gate),
+                    is_repeated(&outcome, &gate),
                     "{slip:?}, {cap:?}, {workers} workers"
                 );
             }
@@ -258,8 +258,8 @@ fn is_spoiled<R: Threads + Wait + Sync + Send + Copy>(rt: R, alloc: Global) -> b
     for _ in 0..TRIES {
         let gate = AfterAnother::new(Desk::Resident(X));
         let (slip, receipt) = offer_of(X, STRANGE);
-        let told = told_by(rt, alloc, SMALL, (Capacity::Full, 2), &gate, slip);
-        if let Err(RunFault::OutOfStep { journal, event }) = told
+        let outcome = told_by(rt, alloc, SMALL, (Capacity::Full, 2), &gate, slip);
+        if let Err(RunFault::OutOfStep { journal, event }) = outcome
             && event == receipt
             && gate.has_held()
             && !journal.contains(&take(Y, B))

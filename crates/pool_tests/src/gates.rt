@@ -1,6 +1,6 @@
 //! What a gate promises, tested in runs: when `pass` is called for a receipt, when `entered` is called, and how a run
 //! stops.
-use crate::runs::{Told, ran, ran_on};
+use crate::runs::{Outcome, ran, ran_on};
 use exchange_core::{Capacity, Desk, Event};
 use match_model::{Instance, ModelFault, ProgrammeNo};
 use match_pool::Ending;
@@ -40,64 +40,68 @@ fn receipts_of(journal: &[Event]) -> u64 {
 }
 
 // Whether each worker entered as many events as the gate counted, and the journal has all of them and no others.
-fn is_told(told: &Told, counts: &[u64]) -> bool {
+fn is_told(outcome: &Outcome, counts: &[u64]) -> bool {
     let mut sum = 0_u64;
-    for (entered, count) in told.entered.iter().zip(counts) {
+    for (entered, count) in outcome.entered.iter().zip(counts) {
         if entered != count {
             return false;
         }
         sum = sum.saturating_add(*count);
     }
-    told.journal.len() as u64 == sum && told.who.len() == told.journal.len()
+    outcome.journal.len() as u64 == sum && outcome.who.len() == outcome.journal.len()
 }
 
-// Whether a run that was stopped from the call of `pass` with this number on ended as it should.
-fn is_stopped_from(told: &Told, gate: &StopsFrom, first: u64, workers: usize) -> bool {
+// Whether a run ended as it should whose gate stops it from the call of `pass` with this number on.
+fn is_stopped_from(outcome: &Outcome, gate: &StopsFrom, first_pass: u64, workers: usize) -> bool {
     let counts = [0, 1, 2, 3, 4, 5, 6, 7].map(|worker| gate.count(worker));
-    let receipts = receipts_of(&told.journal);
-    let is_closed = told.journal.last() == Some(&Event::Close);
-    let ends = match told.ending {
+    let receipts = receipts_of(&outcome.journal);
+    let is_closed = outcome.journal.last() == Some(&Event::Close);
+    let ends = match outcome.ending {
         Ending::Closed => is_closed,
-        Ending::Stopped => !is_closed && receipts >= first,
+        Ending::Stopped => !is_closed && receipts >= first_pass,
     };
     // several workers can close a run while one worker is stopped at the run's last receipt
-    ends && (workers > 1 || is_closed && receipts < first || !is_closed && receipts == first)
+    ends && (workers > 1
+        || is_closed && receipts < first_pass
+        || !is_closed && receipts == first_pass)
         && gate.all_ended()
-        && is_told(told, &counts)
+        && is_told(outcome, &counts)
 }
 
-// How a run ended that was stopped from the call of `pass` with this number on; none if it did not end as it should.
+// How a run ended whose gate stops it from the call of `pass` with this number on; none if it did not end as it
+// should.
 fn stopped_from<R: Threads + Wait + Sync + Send + Copy>(
     rt: R,
     alloc: Global,
     inst: &Instance,
     form: (Capacity, usize),
-    first: u64,
+    first_pass: u64,
 ) -> Option<Ending> {
     let (cap, workers) = form;
-    let gate = StopsFrom::new(first);
-    let Ok(told) = ran_on(rt, alloc, inst, cap, workers, &gate) else {
+    let gate = StopsFrom::new(first_pass);
+    let Ok(outcome) = ran_on(rt, alloc, inst, cap, workers, &gate) else {
         return None;
     };
-    if is_stopped_from(&told, &gate, first, workers) {
-        Some(told.ending)
+    if is_stopped_from(&outcome, &gate, first_pass, workers) {
+        Some(outcome.ending)
     } else {
         None
     }
 }
 
-// Whether runs that were stopped from each of these calls of `pass` on ended as they should.
+// Whether runs ended as they should whose gate stops them at one of these calls of `pass` and at
+// each later call.
 fn stop_well<R: Threads + Wait + Sync + Send + Copy>(
     rt: R,
     alloc: Global,
     workers: usize,
 ) -> Result<bool, ModelFault> {
     let inst = made(alloc, TWO_PLACES)?;
-    for first in 1..=10 {
+    for first_pass in 1..=10 {
         for cap in CAPACITIES {
-            let is_well = match stopped_from(rt, alloc, &inst, (cap, workers), first) {
-                Some(Ending::Closed) => first > 1,
-                Some(Ending::Stopped) => first < 10,
+            let is_well = match stopped_from(rt, alloc, &inst, (cap, workers), first_pass) {
+                Some(Ending::Closed) => first_pass > 1,
+                Some(Ending::Stopped) => first_pass < 10,
                 None => false,
             };
             if !is_well {
@@ -126,13 +130,13 @@ fn stops_from_each_pass_on(rt: HostRuntime) -> Result<(), Fail> {
 fn every_worker_heeds_a_stop(rt: HostRuntime) -> Result<(), Fail> {
     let [_, _, pairs, chain] = made_all(rt.alloc())?;
     for inst in [&pairs, &chain] {
-        for first in [1, 30] {
+        for first_pass in [1, 30] {
             for cap in CAPACITIES {
                 for workers in [2, 4, 8] {
-                    let ending = stopped_from(rt, rt.alloc(), inst, (cap, workers), first);
+                    let ending = stopped_from(rt, rt.alloc(), inst, (cap, workers), first_pass);
                     assert!(rt;
                         ending == Some(Ending::Stopped),
-                        "from {first} on, {cap:?}, {workers} workers"
+                        "from {first_pass} on, {cap:?}, {workers} workers"
                     );
                 }
             }
@@ -141,7 +145,7 @@ fn every_worker_heeds_a_stop(rt: HostRuntime) -> Result<(), Fail> {
     Ok(())
 }
 
-// Whether a run over pairs ends because this worker stopped it, or any worker if none is given.
+// Whether a run over pairs ends because this worker stopped it; any worker, if none is given.
 fn is_stopped_by<R: Threads + Wait + Sync + Send + Copy>(
     rt: R,
     alloc: Global,
@@ -150,8 +154,8 @@ fn is_stopped_by<R: Threads + Wait + Sync + Send + Copy>(
     worker: Option<usize>,
 ) -> bool {
     let gate = StopsBy::new(rt, worker);
-    let told = ran_on(rt, alloc, inst, Capacity::Full, workers, &gate);
-    told.is_ok_and(|told| told.ending == Ending::Stopped)
+    let outcome = ran_on(rt, alloc, inst, Capacity::Full, workers, &gate);
+    outcome.is_ok_and(|outcome| outcome.ending == Ending::Stopped)
 }
 
 #[test]
@@ -180,15 +184,15 @@ fn a_stop_wakes_who_rests(rt: HostRuntime) -> Result<(), Fail> {
     Ok(())
 }
 
-// The index in the journal of the event that a worker entered after `own` events of its own.
-fn place_of(told: &Told, worker: usize, own: u64) -> Option<usize> {
-    let mut before = 0_u64;
-    for (place, of) in told.who.iter().enumerate() {
+// The index in the journal of the event that a worker entered after it had entered `own` events.
+fn place_of(outcome: &Outcome, worker: usize, earlier: u64) -> Option<usize> {
+    let mut entered = 0_u64;
+    for (place, of) in outcome.who.iter().enumerate() {
         if usize::from(*of) == worker {
-            if before == own {
+            if entered == earlier {
                 return Some(place);
             }
-            before = before.saturating_add(1);
+            entered = entered.saturating_add(1);
         }
     }
     None
@@ -196,26 +200,26 @@ fn place_of(told: &Told, worker: usize, own: u64) -> Option<usize> {
 
 // Whether a receipt that was kept waiting was entered after all events that were entered meanwhile, none of which
 // belongs to its desk.
-fn is_entered_after(told: &Told, hold: &Hold, workers: usize) -> bool {
-    let Some(place) = place_of(told, hold.worker, hold.own) else {
+fn is_entered_after(outcome: &Outcome, hold: &Hold, workers: usize) -> bool {
+    let Some(place) = place_of(outcome, hold.worker, hold.own) else {
         return false;
     };
-    for (at, event) in told.journal.iter().enumerate() {
+    for (at, event) in outcome.journal.iter().enumerate() {
         let is_meanwhile = at >= (hold.from as usize).saturating_add(workers) && at < place;
         if is_meanwhile && (desk_of(event) == Some(hold.desk) || *event == Event::Close) {
             return false;
         }
     }
     place as u64 >= hold.to
-        && told.journal.get(place).is_some_and(|event| {
+        && outcome.journal.get(place).is_some_and(|event| {
             desk_of(event) == Some(hold.desk) && receipts_of(&[*event]) == 1
         })
 }
 
 // Whether a call of `pass` was kept waiting, and its receipt was entered only after the wait.
-fn is_late_enough(told: &Told, gate: &Stalls, workers: usize) -> bool {
+fn is_late_enough(outcome: &Outcome, gate: &Stalls, workers: usize) -> bool {
     match gate.hold() {
-        Some(hold) => is_entered_after(told, &hold, workers),
+        Some(hold) => is_entered_after(outcome, &hold, workers),
         None => false,
     }
 }
@@ -231,13 +235,13 @@ fn is_held<R: Threads + Wait + Sync + Send + Copy>(
 ) -> bool {
     let (cap, workers) = form;
     let gate = Stalls::new(place);
-    let Ok(told) = ran_on(rt, alloc, inst, cap, workers, &gate) else {
+    let Ok(outcome) = ran_on(rt, alloc, inst, cap, workers, &gate) else {
         return false;
     };
     let counts = [0, 1, 2, 3, 4, 5, 6, 7].map(|worker| gate.count(worker));
-    told.ending == Ending::Closed
-        && is_told(&told, &counts)
-        && is_late_enough(&told, &gate, workers)
+    outcome.ending == Ending::Closed
+        && is_told(&outcome, &counts)
+        && is_late_enough(&outcome, &gate, workers)
 }
 
 #[test]
@@ -270,11 +274,11 @@ fn goes_on<R: Threads + Wait + Sync + Send + Copy>(
 ) -> bool {
     let (cap, workers) = form;
     let gate = HoldsEntered::new(number);
-    let Ok(told) = ran_on(rt, alloc, inst, cap, workers, &gate) else {
+    let Ok(outcome) = ran_on(rt, alloc, inst, cap, workers, &gate) else {
         return false;
     };
     let counts = [0, 1, 2, 3, 4, 5, 6, 7].map(|worker| gate.count(worker));
-    gate.has_held() && told.ending == Ending::Closed && is_told(&told, &counts)
+    gate.has_held() && outcome.ending == Ending::Closed && is_told(&outcome, &counts)
 }
 
 #[test]
@@ -307,8 +311,8 @@ fn goes_on_beside<R: Threads + Wait + Sync + Send + Copy>(
     cap: Capacity,
 ) -> bool {
     let gate = HoldsVisit::new();
-    let told = ran(rt, alloc, ONE_FOR_TEN, cap, 2, &gate);
-    gate.has_held() && told.is_ok_and(|told| told.ending == Ending::Closed)
+    let outcome = ran(rt, alloc, ONE_FOR_TEN, cap, 2, &gate);
+    gate.has_held() && outcome.is_ok_and(|outcome| outcome.ending == Ending::Closed)
 }
 
 #[test]
@@ -328,8 +332,8 @@ const RIVALS: Members = (&[(1, &[0]), (1, &[0, 1])], &[&[0, 1], &[1]]);
 // The listed desk is that of the rejected programme, which hears of the rejection and offers again.
 fn is_woken<R: Threads + Wait + Sync + Send + Copy>(rt: R, alloc: Global, cap: Capacity) -> bool {
     let gate = Rested::new(rt, Desk::Programme(ProgrammeNo(1)));
-    let told = ran(rt, alloc, RIVALS, cap, 2, &gate);
-    gate.has_held() && told.is_ok_and(|told| told.ending == Ending::Closed)
+    let outcome = ran(rt, alloc, RIVALS, cap, 2, &gate);
+    gate.has_held() && outcome.is_ok_and(|outcome| outcome.ending == Ending::Closed)
 }
 
 #[test]

@@ -14,8 +14,8 @@ use std::time::Duration;
 /// How often a worker that is kept waiting looks whether it may go on; it looks once in a millisecond.
 const LOOKS: u32 = 15_000;
 
-/// What a gate and the mailboxes of its run share. A latch for puts, once the gate has armed it, keeps one put
-/// waiting for a while. A latch for takes keeps a take waiting until the gate opens it.
+/// What a gate and the mailboxes of its run share. Once the gate has armed a latch for puts, the latch keeps
+/// one put waiting for a while. A latch for takes keeps a take waiting until the gate opens it.
 #[derive(Drop)]
 pub(crate) struct Latch<R: Wait + Copy> {
     rt: R,

@@ -58,8 +58,8 @@ const TEN_ANSWERS: Members = (
     &[&[0], &[0], &[0], &[0], &[0], &[0], &[0], &[0], &[0], &[0]],
 );
 
-// There are seventy misses, but at most seven between two entries. Only misses in a row count against a worker's
-// patience.
+// The run has seventy misses, but at most seven between two entries. Only misses in a row count against a
+// worker's patience.
 #[test]
 fn misses_before_an_entry_are_forgotten(rt: HostRuntime) {
     let often = Slip::Answer(A, 0, PutSlip::OftenFull);
@@ -133,8 +133,8 @@ fn told_first<R: Threads + Wait + Sync + Send + Copy>(rt: R, alloc: Global) -> O
 
 #[test]
 fn the_first_trouble_is_told(rt: HostRuntime) {
-    let told = told_first(rt, rt.alloc());
-    assert!(rt; told.is_some_and(|told| told == RunFault::MailGone(Desk::Resident(X))));
+    let outcome = told_first(rt, rt.alloc());
+    assert!(rt; outcome.is_some_and(|outcome| outcome == RunFault::MailGone(Desk::Resident(X))));
 }
 
 // A gate that is slow after the first entry, though it says that it never keeps a worker waiting. So the desk that
@@ -188,7 +188,7 @@ fn a_search_finds_what_no_list_has(rt: HostRuntime) {
         passed: AtomicU64::new(0),
         has_seen: AtomicBool::new(false),
     };
-    let told = ran(rt, rt.alloc(), TWO_PAIRS, Capacity::Full, 2, &gate);
-    let is_closed = told.is_ok_and(|told| told.ending == Ending::Closed);
+    let outcome = ran(rt, rt.alloc(), TWO_PAIRS, Capacity::Full, 2, &gate);
+    let is_closed = outcome.is_ok_and(|outcome| outcome.ending == Ending::Closed);
     assert!(rt; is_closed && gate.has_seen.load(Ordering::SeqCst));
 }

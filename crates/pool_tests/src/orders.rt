@@ -110,8 +110,10 @@ fn told_after_a_stop<R: Threads + Wait + Sync + Send + Copy>(
 #[test]
 fn a_trouble_after_a_stop_is_told(rt: HostRuntime) {
     for _ in 0..3 {
-        let told = told_after_a_stop(rt, rt.alloc());
-        assert!(rt; told.is_some_and(|told| told == RunFault::MailGone(Desk::Resident(X))));
+        let outcome = told_after_a_stop(rt, rt.alloc());
+        assert!(rt;
+            outcome.is_some_and(|outcome| outcome == RunFault::MailGone(Desk::Resident(X)))
+        );
     }
 }
 
@@ -201,7 +203,7 @@ struct ClosesBeside<R: Wait + Copy> {
     rt: R,
     clock: AtomicU64,
     hears: AtomicU64,
-    told: AtomicU64,
+    entered: AtomicU64,
 }
 
 impl<R: Wait + Copy + Sync> Gate for ClosesBeside<R> {
@@ -218,20 +220,23 @@ impl<R: Wait + Copy + Sync> Gate for ClosesBeside<R> {
     }
 
     fn entered(&self, _worker: usize) {
-        let told = self.told.fetch_add(1, Ordering::SeqCst).saturating_add(1);
+        let count = self
+            .entered
+            .fetch_add(1, Ordering::SeqCst)
+            .saturating_add(1);
         // two hears come, then the close, and no event after that
-        match told {
+        match count {
             7 | 8 => {
                 wait_for(
                     self.rt,
                     &self.clock,
-                    &self.told,
-                    told.saturating_add(1),
+                    &self.entered,
+                    count.saturating_add(1),
                     LONG,
                 );
             }
             9 => {
-                wait_for(self.rt, &self.clock, &self.told, 10, 700);
+                wait_for(self.rt, &self.clock, &self.entered, 10, 700);
             }
             _ => {}
         }
@@ -247,11 +252,11 @@ fn a_close_is_told_once(rt: HostRuntime) -> Result<(), Fail> {
         rt,
         clock: AtomicU64::new(0),
         hears: AtomicU64::new(0),
-        told: AtomicU64::new(0),
+        entered: AtomicU64::new(0),
     };
-    let told = ran(rt, rt.alloc(), TWO_PAIRS, Capacity::Full, 2, &gate)?;
-    assert!(rt; told.ending == Ending::Closed && told.journal.len() == 9);
-    assert!(rt; gate.told.load(Ordering::SeqCst) == 9);
+    let outcome = ran(rt, rt.alloc(), TWO_PAIRS, Capacity::Full, 2, &gate)?;
+    assert!(rt; outcome.ending == Ending::Closed && outcome.journal.len() == 9);
+    assert!(rt; gate.entered.load(Ordering::SeqCst) == 9);
     Ok(())
 }
 
@@ -356,8 +361,8 @@ fn what_a_visit_woke_is_listed_before_a_hear_passes(rt: HostRuntime) -> Result<(
         has_held: AtomicBool::new(false),
         has_seen: AtomicBool::new(false),
     };
-    let told = ran(rt, rt.alloc(), TEN_AND_ONE, Capacity::Full, 2, &gate)?;
-    assert!(rt; told.ending == Ending::Closed);
+    let outcome = ran(rt, rt.alloc(), TEN_AND_ONE, Capacity::Full, 2, &gate)?;
+    assert!(rt; outcome.ending == Ending::Closed);
     assert!(rt; gate.has_seen.load(Ordering::SeqCst));
     Ok(())
 }

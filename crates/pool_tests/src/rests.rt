@@ -84,8 +84,8 @@ fn leaves_no_work<R: Threads + Wait + Sync + Send + Copy>(
 ) -> bool {
     let (members, cap, workers) = form;
     let gate = UntilDone::new(rt, holds);
-    let told = ran(rt, alloc, members, cap, workers, &gate);
-    gate.has_held_all() && told.is_ok_and(|told| told.ending == Ending::Closed)
+    let outcome = ran(rt, alloc, members, cap, workers, &gate);
+    gate.has_held_all() && outcome.is_ok_and(|outcome| outcome.ending == Ending::Closed)
 }
 
 #[test]
@@ -122,7 +122,7 @@ struct HoldsTold<R: Wait + Copy> {
     rt: R,
     clock: AtomicU64,
     place: u32,
-    told: AtomicU32,
+    entered: AtomicU32,
     next: [AtomicU32; 3],
     is_over: AtomicBool,
 }
@@ -133,7 +133,7 @@ impl<R: Wait + Copy> HoldsTold<R> {
             rt,
             clock: AtomicU64::new(0),
             place,
-            told: AtomicU32::new(0),
+            entered: AtomicU32::new(0),
             next: [
                 AtomicU32::new(A_PUT),
                 AtomicU32::new(A_PUT),
@@ -180,11 +180,16 @@ impl<R: Wait + Copy + Sync> Gate for HoldsTold<R> {
 
     fn entered(&self, worker: usize) {
         let needed = self.needed(worker);
-        if self.told.fetch_add(1, Ordering::SeqCst).saturating_add(1) != self.place {
+        if self
+            .entered
+            .fetch_add(1, Ordering::SeqCst)
+            .saturating_add(1)
+            != self.place
+        {
             return;
         }
         for _ in 0..LOOKS {
-            if self.told.load(Ordering::SeqCst).saturating_add(needed) >= 4 * PAIRS {
+            if self.entered.load(Ordering::SeqCst).saturating_add(needed) >= 4 * PAIRS {
                 self.is_over.store(true, Ordering::SeqCst);
                 return;
             }
@@ -200,9 +205,9 @@ fn no_work_is_left_while_a_worker_is_told_of_an_entry(rt: HostRuntime) -> Result
     for workers in [2, 3] {
         for place in 1..=4 * PAIRS {
             let gate = HoldsTold::new(rt, place);
-            let told = ran_on(rt, rt.alloc(), &inst, Capacity::Full, workers, &gate)?;
+            let outcome = ran_on(rt, rt.alloc(), &inst, Capacity::Full, workers, &gate)?;
             assert!(rt;
-                told.ending == Ending::Closed && gate.is_over.load(Ordering::SeqCst),
+                outcome.ending == Ending::Closed && gate.is_over.load(Ordering::SeqCst),
                 "event {place}, {workers} workers"
             );
         }
@@ -273,7 +278,7 @@ fn a_visit_that_wakes_many_lists_them_all(rt: HostRuntime) -> Result<(), Fail> {
         next: NONE,
     };
     let gate = UntilDone::new(rt, holds);
-    let told = ran_on(rt, rt.alloc(), &inst, Capacity::Full, 2, &gate)?;
-    assert!(rt; told.ending == Ending::Closed && gate.has_held_all());
+    let outcome = ran_on(rt, rt.alloc(), &inst, Capacity::Full, 2, &gate)?;
+    assert!(rt; outcome.ending == Ending::Closed && gate.has_held_all());
     Ok(())
 }

@@ -11,9 +11,9 @@ use test_support::events::{A, B, X};
 use test_support::instances::{Members, TWO_BY_TWO, TWO_PLACES, has_places, made};
 use test_support::markets::made_in_one_order;
 
-// What is noted of a run: all of its result but the ends and the agents.
+// The result of a run without the ends and the agents.
 #[derive(Drop)]
-pub(crate) struct Told {
+pub(crate) struct Outcome {
     pub(crate) ending: Ending,
     pub(crate) journal: Vec<Event>,
     pub(crate) who: Vec<u8>,
@@ -21,7 +21,7 @@ pub(crate) struct Told {
     pub(crate) entered: Vec<u64>,
 }
 
-// Runs the exchange of an instance, and notes what happened.
+// Runs the exchange of an instance, and returns the result without the ends and the agents.
 pub(crate) fn ran_on<G: Gate + Sync, R: Threads + Wait + Sync + Send + Copy>(
     rt: R,
     alloc: Global,
@@ -29,9 +29,9 @@ pub(crate) fn ran_on<G: Gate + Sync, R: Threads + Wait + Sync + Send + Copy>(
     cap: Capacity,
     workers: usize,
     gate: &G,
-) -> Result<Told, RunFault> {
+) -> Result<Outcome, RunFault> {
     match run(rt, alloc, inst, cap, workers, gate) {
-        Ok(done) => Ok(Told {
+        Ok(done) => Ok(Outcome {
             ending: done.ending,
             journal: done.journal,
             who: done.who,
@@ -42,7 +42,7 @@ pub(crate) fn ran_on<G: Gate + Sync, R: Threads + Wait + Sync + Send + Copy>(
     }
 }
 
-// Runs the exchange of these members, and notes what happened.
+// Runs the exchange of these members, as `ran_on` does.
 pub(crate) fn ran<G: Gate + Sync, R: Threads + Wait + Sync + Send + Copy>(
     rt: R,
     alloc: Global,
@@ -50,7 +50,7 @@ pub(crate) fn ran<G: Gate + Sync, R: Threads + Wait + Sync + Send + Copy>(
     cap: Capacity,
     workers: usize,
     gate: &G,
-) -> Result<Told, RunFault> {
+) -> Result<Outcome, RunFault> {
     match made(alloc, members) {
         Ok(inst) => ran_on(rt, alloc, &inst, cap, workers, gate),
         Err(_) => Err(RunFault::Memory),
@@ -67,7 +67,7 @@ fn ends_with<R: Threads + Wait + Sync + Send + Copy>(
     places: &[Option<u32>],
 ) -> bool {
     match ran(rt, alloc, members, cap, workers, &OpenGate) {
-        Ok(told) => told.ending == Ending::Closed && has_places(&told.assignment, places),
+        Ok(outcome) => outcome.ending == Ending::Closed && has_places(&outcome.assignment, places),
         Err(_) => false,
     }
 }
@@ -184,9 +184,9 @@ fn refuses_a_bad_number_of_workers_or_capacity(rt: HostRuntime) {
 
 // Whether a gate kept a worker waiting, the run closed, each worker entered as many events as the gate counted, and
 // at least two workers entered some.
-fn is_seen(told: &Told, held: &Held) -> bool {
+fn is_seen(outcome: &Outcome, held: &Held) -> bool {
     let mut busy = 0_usize;
-    for (worker, entered) in told.entered.iter().enumerate() {
+    for (worker, entered) in outcome.entered.iter().enumerate() {
         if *entered != held.count(worker) {
             return false;
         }
@@ -195,13 +195,13 @@ fn is_seen(told: &Told, held: &Held) -> bool {
         }
     }
     held.has_held()
-        && told.ending == Ending::Closed
+        && outcome.ending == Ending::Closed
         && busy >= 2
-        && told.journal.len() as u64 == held.count_all()
-        && told.who.len() == told.journal.len()
+        && outcome.journal.len() as u64 == held.count_all()
+        && outcome.who.len() == outcome.journal.len()
 }
 
-// How many events a run has; none unless its gate saw what it should.
+// How many events a run has; none unless its gate kept a worker waiting and the result is right.
 fn seen<G: Gate + Sync, R: Threads + Wait + Sync + Send + Copy>(
     rt: R,
     alloc: Global,
@@ -210,11 +210,11 @@ fn seen<G: Gate + Sync, R: Threads + Wait + Sync + Send + Copy>(
     gate: &G,
     held: &Held,
 ) -> Option<usize> {
-    let Ok(told) = ran(rt, alloc, members, Capacity::Full, workers, gate) else {
+    let Ok(outcome) = ran(rt, alloc, members, Capacity::Full, workers, gate) else {
         return None;
     };
-    if is_seen(&told, held) {
-        Some(told.journal.len())
+    if is_seen(&outcome, held) {
+        Some(outcome.journal.len())
     } else {
         None
     }
@@ -255,17 +255,18 @@ fn is_in_one_order(sheet: &Assignment) -> bool {
 fn two_at_once_on_their_way(rt: HostRuntime) -> Result<(), Fail> {
     let inst = made_in_one_order(rt.alloc())?;
     let firm = Firm(Held::new(9_999));
-    let told = ran_on(rt, rt.alloc(), &inst, Capacity::Full, 2, &firm);
+    let outcome = ran_on(rt, rt.alloc(), &inst, Capacity::Full, 2, &firm);
     assert!(rt;
-        told.is_ok_and(|told| is_seen(&told, &firm.0) && is_in_one_order(&told.assignment))
+        outcome.is_ok_and(|outcome| is_seen(&outcome, &firm.0)
+            && is_in_one_order(&outcome.assignment))
     );
     Ok(())
 }
 
 // Whether a run was stopped after one take, and its workers entered exactly the events of its journal.
-fn is_stopped(told: &Told) -> bool {
+fn is_stopped(outcome: &Outcome) -> bool {
     let mut takes = 0_usize;
-    for event in &told.journal {
+    for event in &outcome.journal {
         match event {
             Event::Close => return false,
             Event::Take { .. } => takes = takes.saturating_add(1),
@@ -273,16 +274,16 @@ fn is_stopped(told: &Told) -> bool {
         }
     }
     let mut entered = 0_u64;
-    for count in &told.entered {
+    for count in &outcome.entered {
         entered = entered.saturating_add(*count);
     }
-    told.ending == Ending::Stopped && takes > 0 && told.journal.len() as u64 == entered
+    outcome.ending == Ending::Stopped && takes > 0 && outcome.journal.len() as u64 == entered
 }
 
 #[test]
 fn heeds_a_stop(rt: HostRuntime) {
-    let told = ran(rt, rt.alloc(), TWO_BY_TWO, Capacity::Full, 2, &StopsAtOnce);
-    assert!(rt; told.is_ok_and(|told| is_stopped(&told)));
+    let outcome = ran(rt, rt.alloc(), TWO_BY_TWO, Capacity::Full, 2, &StopsAtOnce);
+    assert!(rt; outcome.is_ok_and(|outcome| is_stopped(&outcome)));
 }
 
 const TORN: &str = "a desk's log differs from the journal";

@@ -14,21 +14,22 @@ use std::sync::Wait;
 /// The greatest number of messages that an end gives.
 const MOST: usize = 64;
 
-/// What a sending end does at one of its calls, or from this call on.
+/// What a sending end does at one of its calls, or at this call and all later calls.
 #[derive(Clone, Copy, Debug, PartialEq, Eq)]
 pub(crate) enum PutSlip {
     /// The end says once that the mailbox has no room.
     Full,
-    /// The end says from this call on that the mailbox has no room.
+    /// The end says at this call and all later calls that the mailbox has no room.
     AlwaysFull,
-    /// The end says from this call on that the mailbox has no room, except at each eighth call.
+    /// The end says at this call and all later calls that the mailbox has no room, except at each
+    /// eighth call.
     OftenFull,
-    /// The end says from this call on that the receiving end is gone.
+    /// The end says at this call and all later calls that the receiving end is gone.
     Gone,
 }
 
-/// What a receiving end does after it gave a number of messages: at the next call only, or at each call from then
-/// on.
+/// What a receiving end does after it gave a number of messages: at the next call, or at the next call and all
+/// later calls.
 #[derive(Clone, Copy, Debug, PartialEq, Eq)]
 pub(crate) enum TakeSlip<M> {
     /// The end gives no message once, though a message waits.
@@ -128,11 +129,11 @@ impl<M: Copy, R: Wait + Copy> SlippingTake<M, R> {
     fn slipped(&mut self, slip: TakeSlip<M>) -> TakeReply<M>
         ensures { self.new ≡ self.old }
     {
-        let again = mem::replace(&mut self.has_slipped, true);
+        let has_slipped = mem::replace(&mut self.has_slipped, true);
         match slip {
             TakeSlip::AlwaysNothing => TakeReply::Nothing,
             TakeSlip::Gone => TakeReply::Gone,
-            _ if again => self.end.take(),
+            _ if has_slipped => self.end.take(),
             TakeSlip::Nothing => TakeReply::Nothing,
             TakeSlip::Gives(m) => TakeReply::Got(m),
             TakeSlip::Repeats => match self.given.last() {
@@ -163,7 +164,8 @@ pub(crate) struct Slipping<R: Wait + Copy> {
     pub(crate) slips: [Slip; 2],
 }
 
-// The two ends of a mailbox, which give the wrong answers of these two arguments.
+// The two ends of a mailbox: the sending end with this slip for puts, and the receiving end with
+// this slip for takes.
 fn ends_of<M: Copy + Eq, R: Wait + Copy>(
     rt: R,
     alloc: Global,

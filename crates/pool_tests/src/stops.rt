@@ -109,7 +109,7 @@ fn is_programmes_own<T: TakeEnd<AnswerNote> + Drop>(
     Ok(is_log && messages == answers_of(alloc, journal, programme, false)?)
 }
 
-// Whether a replay of the journal finds a closed exchange if the run closed, and only the fault `NotClosed` otherwise.
+// Whether a replay of the journal finds a closed exchange if the run closed, and else the fault `NotClosed`.
 fn is_found(
     alloc: Global,
     inst: &Instance,
@@ -184,15 +184,16 @@ fn is_its_journal<M: Mailboxes>(
     )
 }
 
-// Whether a run by two workers that is stopped from the call of `pass` with this number on ends well.
+// Whether a run by two workers ends as it should whose gate stops it from the call of `pass` with
+// this number on.
 fn stops_well<R: Threads + Wait + Sync + Send + Copy>(
     rt: R,
     alloc: Global,
     inst: &Instance,
     cap: Capacity,
-    first: u64,
+    first_pass: u64,
 ) -> bool {
-    match run(rt, alloc, inst, cap, 2, &StopsFrom::new(first)) {
+    match run(rt, alloc, inst, cap, 2, &StopsFrom::new(first_pass)) {
         Ok(done) => is_its_journal(alloc, inst, cap, done) == Ok(true),
         Err(_) => false,
     }
@@ -202,11 +203,11 @@ fn stops_well<R: Threads + Wait + Sync + Send + Copy>(
 fn a_run_that_is_stopped_at_any_pass_is_its_journal(rt: HostRuntime) -> Result<(), Fail> {
     // a chain of thirty links has sixty acceptable pairs
     let inst = made_chain(rt.alloc(), 30)?;
-    for first in 1..=160 {
+    for first_pass in 1..=160 {
         for cap in [Capacity::Full, Capacity::Each(1)] {
             assert!(rt;
-                stops_well(rt, rt.alloc(), &inst, cap, first),
-                "from {first} on, {cap:?}"
+                stops_well(rt, rt.alloc(), &inst, cap, first_pass),
+                "from {first_pass} on, {cap:?}"
             );
         }
     }

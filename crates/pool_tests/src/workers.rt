@@ -1,5 +1,5 @@
 //! Runs of the pool by one to eight workers.
-use crate::runs::{Told, ran};
+use crate::runs::{Outcome, ran};
 use exchange_core::{Capacity, Desk};
 use match_pool::{Ending, OpenGate};
 use std::alloc::Global;
@@ -11,10 +11,10 @@ use test_support::events::A;
 use test_support::instances::{Members, TWO_PLACES, has_places};
 
 // Whether each event of a run has a worker, and each worker has as many events as the run reports.
-fn is_counted(told: &Told, workers: usize) -> bool {
-    for (worker, entered) in told.entered.iter().enumerate() {
+fn is_counted(outcome: &Outcome, workers: usize) -> bool {
+    for (worker, entered) in outcome.entered.iter().enumerate() {
         let mut events = 0_u64;
-        for of in &told.who {
+        for of in &outcome.who {
             if usize::from(*of) == worker {
                 events = events.saturating_add(1);
             }
@@ -23,13 +23,13 @@ fn is_counted(told: &Told, workers: usize) -> bool {
             return false;
         }
     }
-    told.entered.len() == workers && told.who.len() == told.journal.len()
+    outcome.entered.len() == workers && outcome.who.len() == outcome.journal.len()
 }
 
 #[test]
 fn one_worker_and_eight(rt: HostRuntime) {
     for workers in [1, 8] {
-        let told = ran(
+        let outcome = ran(
             rt,
             rt.alloc(),
             TWO_PLACES,
@@ -38,9 +38,9 @@ fn one_worker_and_eight(rt: HostRuntime) {
             &OpenGate,
         );
         assert!(rt;
-            told.is_ok_and(|told| told.ending == Ending::Closed
-                && has_places(&told.assignment, &[Some(1), Some(0), Some(0)])
-                && is_counted(&told, workers)),
+            outcome.is_ok_and(|outcome| outcome.ending == Ending::Closed
+                && has_places(&outcome.assignment, &[Some(1), Some(0), Some(0)])
+                && is_counted(&outcome, workers)),
             "{workers} workers"
         );
     }
@@ -98,13 +98,13 @@ fn goes_on<R: Threads + Wait + Sync + Send + Copy>(
     order: Order,
 ) -> bool {
     let gate = AllButOne::new(16, workers.saturating_sub(1) as u64, order);
-    let Ok(told) = ran(rt, alloc, PAIRS, Capacity::Full, workers, &gate) else {
+    let Ok(outcome) = ran(rt, alloc, PAIRS, Capacity::Full, workers, &gate) else {
         return false;
     };
     gate.has_held_all()
-        && told.ending == Ending::Closed
-        && told.journal.len() == 65
-        && is_counted(&told, workers)
+        && outcome.ending == Ending::Closed
+        && outcome.journal.len() == 65
+        && is_counted(&outcome, workers)
 }
 
 #[test]
@@ -131,9 +131,10 @@ fn a_worker_that_sleeps_ends_with_the_run(rt: HostRuntime) {
         next: (0, Until::Entered(0)),
     };
     let gate = UntilDone::new(rt, holds);
-    let told = ran(rt, rt.alloc(), ONE_PAIR, Capacity::Full, 2, &gate);
+    let outcome = ran(rt, rt.alloc(), ONE_PAIR, Capacity::Full, 2, &gate);
     assert!(rt;
         gate.has_held_all()
-            && told.is_ok_and(|told| told.ending == Ending::Closed && is_counted(&told, 2))
+            && outcome.is_ok_and(|outcome| outcome.ending == Ending::Closed
+                && is_counted(&outcome, 2))
     );
 }

@@ -39,7 +39,7 @@ struct Yields<R: Wait + Copy> {
 }
 
 impl<R: Wait + Copy> Yields<R> {
-    // What the worker does at this call is drawn by the number of calls before it.
+    // The number of earlier calls decides, as a seed, what the worker does at this call.
     fn turn(&self) {
         let mut chance = self.passed.fetch_add(1, Ordering::SeqCst);
         match drawn(&mut chance) {
@@ -103,8 +103,8 @@ fn made_by_chance(alloc: Global, chance: &mut u64) -> Result<Instance, ModelFaul
     builder.finish().map_err(|refused| refused.fault)
 }
 
-// How many workers entered events in a run that closed and gave the sheet that its journal leads to; none for any
-// other run.
+// How many workers entered events in a run; none unless the run closed and gave the sheet that its journal leads
+// to.
 fn busy_in<R: Threads + Wait + Sync + Send + Copy>(
     rt: R,
     alloc: Global,
@@ -118,15 +118,15 @@ fn busy_in<R: Threads + Wait + Sync + Send + Copy>(
         clock: AtomicU64::new(0),
         passed: AtomicU64::new(chance),
     };
-    let Ok(told) = ran_on(rt, alloc, inst, cap, workers, &gate) else {
+    let Ok(outcome) = ran_on(rt, alloc, inst, cap, workers, &gate) else {
         return None;
     };
-    let checked = check(alloc, inst, cap, &told.journal, &told.assignment);
-    if told.ending != Ending::Closed || checked.is_err() {
+    let checked = check(alloc, inst, cap, &outcome.journal, &outcome.assignment);
+    if outcome.ending != Ending::Closed || checked.is_err() {
         return None;
     }
     let mut busy = 0_usize;
-    for entered in &told.entered {
+    for entered in &outcome.entered {
         busy = busy.saturating_add((*entered > 0) as usize);
     }
     Some(busy)

@@ -1,4 +1,4 @@
--- What the texts of the words ask for is what the words themselves ask for.
+-- The words of a command line give the same order as their texts.
 use Rattle.std.proofs.Common.{◌≡◌, sym, refl, inl, inr, List, ℕ, Option, Result, Ok, map, string_bytes}
 use Rattle.std.specs.Prelude.{String}
 use Rattle.std.specs.Global.{Vec}
@@ -7,7 +7,7 @@ use Rattle.program_shell.specs.Ends.{EndsAs, IsRefusedStatus}
 use Rattle.program_shell.specs.declared.fault.LineFault.{LineFault}
 use Rattle.program_shell.specs.declared.fault.UsageFault.TheVariants.{Line}
 
--- the texts that were read are the texts of the words
+-- these texts were read, and they are the texts of the words
 module _ {A E O : Type 0} (Refuses : List Text → LineFault → Type 0) (Orders : List Text → O → Type 0) (Serves : O → Type 0)
     (words : Result (Vec (String A)) E) (texts : Vec (String A)) (read : List (String A)) (is : words ≡ Ok texts) (lent : read ≡ texts.items)
     (old : Option (List ℕ)) (status : ℕ) where

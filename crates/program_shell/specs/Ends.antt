@@ -42,7 +42,7 @@ pub record EndsUnread (old new : Option (List ℕ)) (status : ℕ) : Type 0 wher
   pub nothing : new ≡ old
   pub tells : status ≡ 1
 
--- an order was answered: what was written fits the answer, and the status is the answer's
+-- an order was answered: what was written fits the answer, and the status is that of the answer
 pub record EndsAnswered {Answer : Type 0} (Appends : Answer → Type 0) (status_of : Answer → ℕ) (status : ℕ) : Type 0 where
   pub answer : Answer
   pub appends : Appends answer

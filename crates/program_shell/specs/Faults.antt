@@ -1,4 +1,4 @@
--- Which fault an error of the parser becomes.
+-- The fault of a command line for an error of the parser.
 use Rattle.std.specs.Prelude.{◌≢◌}
 use Rattle.clap.specs.Values.{kind_of}
 use Rattle.clap.specs.declared.error.Error.{Error}
@@ -7,8 +7,8 @@ use Rattle.clap.specs.declared.error.kind.ErrorKind.TheVariants.{OutOfMemory}
 use Rattle.program_shell.specs.declared.fault.LineFault.{LineFault}
 use Rattle.program_shell.specs.declared.fault.LineFault.TheVariants.{Memory, Line}
 
--- the fault that an error of this kind is told as: out of memory has its own, every other error is
--- told as it is
+-- the fault for a parser's error of this kind: out of memory is a fault of its own, and any other
+-- error is kept in the fault
 abbrev pub told_by_kind : ErrorKind → Error → LineFault
 told_by_kind OutOfMemory error = Memory
 told_by_kind kind error = Line error

@@ -1,8 +1,8 @@
--- What the bytes are that a program loads. No contract can say which bytes a file has.
+-- The bytes that a program loads. No contract can say which bytes a file has.
 use Rattle.std.specs.Prelude.{◌≡◌, ◌≢◌, ℕ, Option, Some, None, List, IfSome, codes}
 use Rattle.clap.specs.Words.{Text}
 
--- if the bytes of standard input are known, these are they
+-- if the bytes of standard input are known, they are these bytes
 abbrev pub AreInput : Option (List ℕ) → List ℕ → Type 0
 AreInput input bytes = IfSome input (λ known. bytes ≡ known)
 

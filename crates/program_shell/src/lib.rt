@@ -1,4 +1,4 @@
-//! How a program turns the command line's words into texts before it parses them, and what it does if the words give
+//! How a program turns the words of a command line into texts before it parses them, and what it does if they give
 //! no order.
 //!
 //! Contracts say which fault is reported, and with which exit status. Tests compare the texts.

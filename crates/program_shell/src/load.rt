@@ -30,7 +30,7 @@ pub fn is_input(path: &str) -> bool
     path == "-"
 }
 
-// Why the file with this path was not read.
+// The reason why the file with this path was not read.
 fn not_read<'a>(path: &'a str, error: io::Error) -> Unread<'a> {
     match error.kind() {
         io::ErrorKind::OutOfMemory => Unread::Memory(path),
@@ -129,9 +129,9 @@ pub fn lent(bytes: &Option<Vec<u8>>) -> Option<&[u8]>
 }
 
 /// Prints that a file was not read, and returns the exit status.
-pub fn refuse_unread<T: Eprint>(told: &T, unread: &Unread) -> ExitCode
+pub fn refuse_unread<T: Eprint>(console: &T, unread: &Unread) -> ExitCode
     ensures { exit_status_in result ≡ 1 }
 {
-    let _ = eprintln!(told; "residency: {unread}");
+    let _ = eprintln!(console; "residency: {unread}");
     ExitCode::from(1)
 }

@@ -25,16 +25,16 @@ pub fn texts_of(words: io::Result<Vec<String>>) -> Result<Vec<String>, UsageFaul
 
 /// Prints why the words give no order, and returns the exit status. Help and the version are answers, so the program
 /// fails if their text can't be written.
-pub fn refuse<T: Print + Eprint>(told: &T, fault: &UsageFault) -> ExitCode
+pub fn refuse<T: Print + Eprint>(console: &T, fault: &UsageFault) -> ExitCode
     ensures { IsRefusedStatus fault.now (exit_status_in result) }
 {
     let is_told = match fault {
-        UsageFault::Line(LineFault::Line(error)) => error.print(told).is_ok(),
-        fault => eprintln!(told; "residency: {fault}").is_ok(),
+        UsageFault::Line(LineFault::Line(error)) => error.print(console).is_ok(),
+        fault => eprintln!(console; "residency: {fault}").is_ok(),
     };
     let status = usage_status(fault);
     if status == 0 && !is_told {
-        let _ = eprintln!(told; "residency: {}", DocketFault::Write);
+        let _ = eprintln!(console; "residency: {}", DocketFault::Write);
         return ExitCode::from(1);
     }
     ExitCode::from(status)

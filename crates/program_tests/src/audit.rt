@@ -37,9 +37,9 @@ fn audits(rt: HostRuntime) -> Result<(), Fail> {
         ),
     ];
     for (texts, status, report, exit) in cases {
-        let ending = (Ok(status), report, exit);
+        let expected = (Ok(status), report, exit);
         assert!(rt;
-            serves_both(rt, rt.alloc(), Order::Audit, texts, ending)?,
+            serves_both(rt, rt.alloc(), Order::Audit, texts, expected)?,
             "{report}"
         );
     }
@@ -88,9 +88,9 @@ const AUDITS: [(&[&str], Status, &str, u8); 4] = [
 #[test]
 fn audits_of_old_sheets(rt: HostRuntime) -> Result<(), Fail> {
     for (texts, status, report, exit) in AUDITS {
-        let ending = (Ok(status), report, exit);
+        let expected = (Ok(status), report, exit);
         assert!(rt;
-            serves(rt, rt.alloc(), Order::Audit, texts, ending)?,
+            serves(rt, rt.alloc(), Order::Audit, texts, expected)?,
             "{report}"
         );
     }

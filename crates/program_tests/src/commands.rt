@@ -55,25 +55,26 @@ pub(super) fn serves<H: Threads + Wait + RandomSource + Sync + Send + Copy>(
     alloc: Global,
     order: Order,
     texts: &[&str],
-    ending: (Result<Status, ServeFault>, &str, u8),
+    expected: (Result<Status, ServeFault>, &str, u8),
 ) -> Result<bool, AllocError> {
-    let (wanted, text, exit) = ending;
+    let (wanted, text, exit) = expected;
     let input = joined(alloc, texts)?;
     let mut output = Vec::new(alloc);
     let answer = serve(rt, alloc, order, input.as_bytes(), &mut output);
     Ok(answer == wanted && output.as_slice() == text.as_bytes() && exit_status(&answer) == exit)
 }
 
-// Whether an answer is the expected one, but with the number of the record at fault one higher.
+// Whether an answer is the expected answer, except that the number of the record at fault is one
+// higher.
 fn is_further(
     alloc: Global,
     answer: &Result<Status, ServeFault>,
     wanted: &Result<Status, ServeFault>,
 ) -> Result<bool, AllocError> {
     match (answer, wanted) {
-        (Err(fault), Err(first)) => {
-            let told = further(alloc, first.to_string(alloc)?.as_str())?;
-            Ok(fault.to_string(alloc)?.as_str() == told.as_str())
+        (Err(fault), Err(wanted_fault)) => {
+            let wanted_text = further(alloc, wanted_fault.to_string(alloc)?.as_str())?;
+            Ok(fault.to_string(alloc)?.as_str() == wanted_text.as_str())
         }
         _ => Ok(answer == wanted),
     }
@@ -86,15 +87,15 @@ pub(super) fn serves_both<H: Threads + Wait + RandomSource + Sync + Send + Copy>
     alloc: Global,
     order: Order,
     texts: &[&str],
-    ending: (Result<Status, ServeFault>, &str, u8),
+    expected: (Result<Status, ServeFault>, &str, u8),
 ) -> Result<bool, AllocError> {
-    let (wanted, text, exit) = ending;
-    let first = joined(alloc, texts)?;
-    let second = joined(alloc, &[VERSION_2, first.as_str()])?;
+    let (wanted, text, exit) = expected;
+    let version_1 = joined(alloc, texts)?;
+    let version_2 = joined(alloc, &[VERSION_2, version_1.as_str()])?;
     let mut output = Vec::new(alloc);
-    let answer = serve(rt, alloc, order, second.as_bytes(), &mut output);
-    let again = is_further(alloc, &answer, &wanted)?
+    let answer = serve(rt, alloc, order, version_2.as_bytes(), &mut output);
+    let serves_version_2 = is_further(alloc, &answer, &wanted)?
         && output.as_slice() == text.as_bytes()
         && exit_status(&answer) == exit;
-    Ok(serves(rt, alloc, order, texts, (wanted, text, exit))? && again)
+    Ok(serves(rt, alloc, order, texts, (wanted, text, exit))? && serves_version_2)
 }

@@ -69,9 +69,9 @@ fn first_untold_cut<H: Threads + Wait + RandomSource + Sync + Send + Copy>(
 #[test]
 fn tells_of_broken_readers(rt: HostRuntime) -> Result<(), Fail> {
     let alloc = rt.alloc();
-    let first = joined(alloc, &[SMALL, FULL, SMALL_JOURNAL, SMALL_SHEET])?;
-    let second = joined(alloc, &[VERSION_2, first.as_str()])?;
-    for text in [first.as_str(), second.as_str()] {
+    let version_1 = joined(alloc, &[SMALL, FULL, SMALL_JOURNAL, SMALL_SHEET])?;
+    let version_2 = joined(alloc, &[VERSION_2, version_1.as_str()])?;
+    for text in [version_1.as_str(), version_2.as_str()] {
         for (order, status, _) in ORDERS {
             assert!(rt; first_untold_cut(rt, alloc, order, text) == None);
             let reader = CutReader::new(text.as_bytes(), usize::MAX);
@@ -82,17 +82,17 @@ fn tells_of_broken_readers(rt: HostRuntime) -> Result<(), Fail> {
     Ok(())
 }
 
-// Whether a command reports that the writer fails after `good` calls, and the writer got the beginning of the
-// text.
+// Whether a command reports that the writer fails after `good_calls` calls, and the writer got the beginning
+// of the text.
 fn tells_of_cut_output<H: Threads + Wait + RandomSource + Sync + Send + Copy>(
     rt: H,
     alloc: Global,
     order: Order,
     input: &str,
     text: &str,
-    good: usize,
+    good_calls: usize,
 ) -> bool {
-    let mut writer = CutWriter::new(Vec::new(alloc), good);
+    let mut writer = CutWriter::new(Vec::new(alloc), good_calls);
     let answer = serve(rt, alloc, order, input.as_bytes(), &mut writer);
     answer == Err(ServeFault::Docket(DocketFault::Write))
         && exit_status(&answer) == 1
@@ -107,9 +107,9 @@ fn writes_all<H: Threads + Wait + RandomSource + Sync + Send + Copy>(
     input: &str,
     text: &str,
     wanted: Status,
-    good: usize,
+    good_calls: usize,
 ) -> bool {
-    let mut writer = CutWriter::new(Vec::new(alloc), good);
+    let mut writer = CutWriter::new(Vec::new(alloc), good_calls);
     serve(rt, alloc, order, input.as_bytes(), &mut writer) == Ok(wanted)
         && writer.got() == text.as_bytes()
 }
@@ -120,10 +120,10 @@ fn tells_of_broken_writers(rt: HostRuntime) -> Result<(), Fail> {
     let input = joined(alloc, &[SMALL, FULL, SMALL_JOURNAL, SMALL_SHEET])?;
     for (order, status, text) in ORDERS {
         let calls = text.len().div_ceil(3);
-        for good in 0..calls {
+        for good_calls in 0..calls {
             assert!(rt;
-                tells_of_cut_output(rt, alloc, order, input.as_str(), text, good),
-                "{good}"
+                tells_of_cut_output(rt, alloc, order, input.as_str(), text, good_calls),
+                "{good_calls}"
             );
         }
         assert!(rt; writes_all(rt, alloc, order, input.as_str(), text, status, calls));

@@ -26,7 +26,8 @@ fn read_slowly(alloc: Global, input: &str, cut: usize) -> Result<Docket, DocketF
     read_docket(&OneByte(7), alloc, CutReader::new(input.as_bytes(), cut))
 }
 
-/// Whether reading a docket ended as expected: with a fault of this text, or well if the text is `read`.
+/// Whether reading a docket ended as expected: with a fault of this text, or without a fault if the text
+/// is `read`.
 fn is_told(
     alloc: Global,
     answer: Result<Docket, DocketFault>,
@@ -58,8 +59,8 @@ fn tells_both(alloc: Global, records: &str, wanted: &str) -> Result<bool, AllocE
     Ok(at_once && slowly)
 }
 
-/// The first line whose docket is read otherwise than the line says, by a reader that gives all bytes at once or by a
-/// slow one.
+/// The first line whose docket isn't read as the line says, by a reader that gives all bytes at once or by a slow
+/// reader.
 ///
 /// Spaces separate the records in a line, and the expected outcome stands after ` = `.
 fn first_wrong<'a>(alloc: Global, lines: &'a str) -> Result<Option<&'a str>, AllocError> {
@@ -84,8 +85,8 @@ fn first_wrong_of_version_2<'a>(
         let Some((records, wanted)) = line.split_once(" = ") else {
             return Ok(Some(line));
         };
-        let again = joined(alloc, &["V,2 ", records])?;
-        if !tells_both(alloc, again.as_str(), further(alloc, wanted)?.as_str())? {
+        let version_2 = joined(alloc, &["V,2 ", records])?;
+        if !tells_both(alloc, version_2.as_str(), further(alloc, wanted)?.as_str())? {
             return Ok(Some(line));
         }
     }

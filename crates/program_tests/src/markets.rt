@@ -60,8 +60,8 @@ fn push_round(
     Ok(())
 }
 
-// Lengths of steps: with the first of each pair a walk reaches all of forty places, and with the second all of
-// twelve.
+// Lengths of steps: with the first of each pair a walk reaches all places of a circle of forty, and with
+// the second all of a circle of twelve.
 const STEPS: [(u32, u32); 4] = [(3, 1), (7, 5), (11, 7), (13, 11)];
 
 // Adds the quota and the list of programme `p` of the docket `hundreds`.

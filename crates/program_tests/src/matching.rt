@@ -38,9 +38,9 @@ fn matches(rt: HostRuntime) -> Result<(), Fail> {
         ),
     ];
     for (texts, sheet) in cases {
-        let ending = (Ok(Status::Closed), sheet, 0);
+        let expected = (Ok(Status::Closed), sheet, 0);
         assert!(rt;
-            serves_both(rt, rt.alloc(), MATCH, texts, ending)?,
+            serves_both(rt, rt.alloc(), MATCH, texts, expected)?,
             "{sheet}"
         );
     }
@@ -50,9 +50,9 @@ fn matches(rt: HostRuntime) -> Result<(), Fail> {
 #[test]
 fn matches_through_narrow_mailboxes(rt: HostRuntime) -> Result<(), Fail> {
     for (text, sheet) in [(QUOTAS, QUOTAS_SHEET), (SMALL, SMALL_SHEET)] {
-        let ending = (Ok(Status::Closed), sheet, 0);
+        let expected = (Ok(Status::Closed), sheet, 0);
         assert!(rt;
-            serves_both(rt, rt.alloc(), NARROW, &[text], ending)?,
+            serves_both(rt, rt.alloc(), NARROW, &[text], expected)?,
             "{sheet}"
         );
     }
@@ -73,9 +73,9 @@ fn refuses_wrong_options(rt: HostRuntime) -> Result<(), Fail> {
             capacity,
             journal: JournalForm::Absent,
         });
-        let ending = (Err(ServeFault::Run(fault)), "", 1);
+        let expected = (Err(ServeFault::Run(fault)), "", 1);
         assert!(rt;
-            serves(rt, rt.alloc(), order, &[SMALL], ending)?,
+            serves(rt, rt.alloc(), order, &[SMALL], expected)?,
             "{workers}"
         );
     }
@@ -84,8 +84,8 @@ fn refuses_wrong_options(rt: HostRuntime) -> Result<(), Fail> {
 
 #[test]
 fn writes_the_journal_of_nothing(rt: HostRuntime) -> Result<(), Fail> {
-    let ending = (Ok(Status::Closed), "C,full\nE,close\n", 0);
-    assert!(rt; serves_both(rt, rt.alloc(), WITH_JOURNAL, &[], ending)?);
+    let expected = (Ok(Status::Closed), "C,full\nE,close\n", 0);
+    assert!(rt; serves_both(rt, rt.alloc(), WITH_JOURNAL, &[], expected)?);
     Ok(())
 }
 
@@ -97,7 +97,7 @@ const ALONE_BY_WORKER: Order = Order::Match(MatchOptions {
 
 #[test]
 fn writes_the_journal_of_nothing_by_worker(rt: HostRuntime) -> Result<(), Fail> {
-    let ending = (Ok(Status::Closed), "C,full,1\nE,close,0\n", 0);
-    assert!(rt; serves(rt, rt.alloc(), ALONE_BY_WORKER, &[], ending)?);
+    let expected = (Ok(Status::Closed), "C,full,1\nE,close,0\n", 0);
+    assert!(rt; serves(rt, rt.alloc(), ALONE_BY_WORKER, &[], expected)?);
     Ok(())
 }

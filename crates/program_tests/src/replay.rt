@@ -26,9 +26,9 @@ fn replays_good_journals(rt: HostRuntime) -> Result<(), Fail> {
         (&[SMALL, "C,1024\n", SMALL_JOURNAL], "G,9\n"),
     ];
     for (texts, row) in cases {
-        let ending = (Ok(Status::ReplayGood), row, 0);
+        let expected = (Ok(Status::ReplayGood), row, 0);
         assert!(rt;
-            serves_both(rt, rt.alloc(), Order::Replay, texts, ending)?,
+            serves_both(rt, rt.alloc(), Order::Replay, texts, expected)?,
             "{row}"
         );
     }
@@ -103,9 +103,9 @@ const REFUSED: [(&[&str], &str); 15] = [
 #[test]
 fn replays_bad_journals(rt: HostRuntime) -> Result<(), Fail> {
     for (texts, row) in REFUSED {
-        let ending = (Ok(Status::ReplayBad), row, 4);
+        let expected = (Ok(Status::ReplayBad), row, 4);
         assert!(rt;
-            serves_both(rt, rt.alloc(), Order::Replay, texts, ending)?,
+            serves_both(rt, rt.alloc(), Order::Replay, texts, expected)?,
             "{row}"
         );
     }
@@ -171,9 +171,9 @@ fn sees_forged_journals(rt: HostRuntime) -> Result<(), Fail> {
     for (events, status, row, exit) in FORGED {
         let journal = journal_of(rt.alloc(), events)?;
         let texts = [SMALL, journal.as_str()];
-        let ending = (Ok(status), row, exit);
+        let expected = (Ok(status), row, exit);
         assert!(rt;
-            serves_both(rt, rt.alloc(), Order::Replay, &texts, ending)?,
+            serves_both(rt, rt.alloc(), Order::Replay, &texts, expected)?,
             "{row}"
         );
     }
@@ -215,9 +215,9 @@ fn replays_journals_by_worker(rt: HostRuntime) -> Result<(), Fail> {
         ),
     ];
     for (texts, status, rows, exit) in cases {
-        let ending = (Ok(status), rows, exit);
+        let expected = (Ok(status), rows, exit);
         assert!(rt;
-            serves(rt, rt.alloc(), Order::Replay, texts, ending)?,
+            serves(rt, rt.alloc(), Order::Replay, texts, expected)?,
             "{rows}"
         );
     }
@@ -245,9 +245,9 @@ fn refuses_wrong_workers(rt: HostRuntime) -> Result<(), Fail> {
         ),
     ];
     for (texts, fault) in cases {
-        let ending = (Err(ServeFault::Docket(fault)), "", 3);
+        let expected = (Err(ServeFault::Docket(fault)), "", 3);
         assert!(rt;
-            serves(rt, rt.alloc(), Order::Replay, texts, ending)?,
+            serves(rt, rt.alloc(), Order::Replay, texts, expected)?,
             "{fault}"
         );
     }
@@ -303,9 +303,9 @@ const REPLAYS: [(&[&str], Status, &str, u8); 3] = [
 #[test]
 fn replays_of_old_journals(rt: HostRuntime) -> Result<(), Fail> {
     for (texts, status, row, exit) in REPLAYS {
-        let ending = (Ok(status), row, exit);
+        let expected = (Ok(status), row, exit);
         assert!(rt;
-            serves(rt, rt.alloc(), Order::Replay, texts, ending)?,
+            serves(rt, rt.alloc(), Order::Replay, texts, expected)?,
             "{row}"
         );
     }

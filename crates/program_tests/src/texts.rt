@@ -59,16 +59,16 @@ pub(super) const CLOSE: &str = "E,close\n";
 pub(super) const VERSION_2: &str = "V,2\n";
 
 /// The text of a fault with the number of the record one higher.
-pub(super) fn further(alloc: Global, told: &str) -> Result<String, AllocError> {
-    let Some((number, cause)) = told
+pub(super) fn further(alloc: Global, fault_text: &str) -> Result<String, AllocError> {
+    let Some((number, cause)) = fault_text
         .strip_prefix("record ")
         .and_then(|t| t.split_once(": "))
     else {
-        return told.to_string(alloc);
+        return fault_text.to_string(alloc);
     };
     match number.parse::<u32>() {
         Ok(n) => format!(in alloc; "record {}: {cause}", n.saturating_add(1)),
-        Err(_) => told.to_string(alloc),
+        Err(_) => fault_text.to_string(alloc),
     }
 }
 

@@ -32,7 +32,7 @@ fn rows_between(text: &[u8], start: &str, end: &str) -> u64 {
 }
 
 // Adds the row that a replay writes for each worker. Returns whether the journal names each worker as often as the
-// gate counted entries of that worker.
+// gate counted the worker's entries.
 fn is_named(
     alloc: Global,
     journal: &[u8],
@@ -95,8 +95,7 @@ fn a_journal_names_the_worker_of_each_event(rt: HostRuntime) -> Result<(), Fail>
     Ok(())
 }
 
-// A receipt for which a gate's `pass` was called: its desk, its worker, and whether the receipt was found in the
-// journal.
+// A receipt for which a gate's `pass` was called: its desk, its worker, and whether it was found in the journal.
 #[derive(Clone, Copy, Debug)]
 struct Receipt {
     desk: Desk,
@@ -143,7 +142,8 @@ impl<R: Wait + Copy + Sync> Gate for Noting<R> {
     fn entered(&self, _worker: usize) {}
 }
 
-// The worker of the first receipt of this desk that was not found yet. The receipt then counts as found.
+// The worker of this desk's first receipt that was not found in the journal yet. The receipt then counts
+// as found.
 fn next_at(receipts: &mut [Receipt], desk: Option<Desk>) -> Option<usize> {
     for receipt in receipts {
         if Some(receipt.desk) == desk && !receipt.is_found {

@@ -18,8 +18,8 @@ use Rattle.reasons_text.specs.declared.fault.WhyFault.{WhyFault}
 use Rattle.reasons_text.specs.declared.fault.WhyFault.TheVariants.{Docket, Reading, NoSheet, BadKey, DoubledKey, NoResident, NoProgramme, ManyResidents, ManyProgrammes, Records, EmptySheet}
 use Rattle.reasons_text.specs.Naming.{Naming, SideNames, no_names, own_names}
 
--- if the reasons so far are the answers about the first programmes on a resident's list, they are
--- so after the next answer
+-- the answers about the first k programmes on a list, and the answer about the next, are the
+-- answers about the first k + 1
 pub AreFirst-push : (c : CaseParts) (r : ℕ) (mine : List ℕ) (reasons : List Why) (reason : Why) (p n : ℕ) → length reasons ≡ n →
     slice_get mine n ≡ Some p → AreFirst c r mine reasons → IsAnswer c r p reason → AreFirst c r mine (reasons ++ reason ∷ [])
 AreFirst-push c r mine reasons reason p n e there h new i q w at told = elim (slice_get_push_parts reasons reason i w told) [
@@ -46,7 +46,7 @@ read_of limits bytes d written h = record {
   members = h.members;
 }
 
--- a docket that was read but gives no case is a reason why there is no case
+-- why a docket that was read gives no case is a fault of reading a case
 pub no_case : (limits : Limits) (bytes : Option (List ℕ)) (d : Contents) (written : Written) (fault : WhyFault) → IsReadWithin limits bytes d written
     → IsOfNoCase d fault → IsCaseFaultWithin limits bytes fault
 no_case limits bytes d written (Docket e) read memory = inr memory
@@ -65,7 +65,6 @@ no_case limits bytes d written EmptySheet read h = h
 pub places_of : (c : CaseParts) → IsCase c → IsWhole c.docket → length c.sheet ≡ length c.docket.instance.resident_lists
 places_of c h whole = (whole.sheet c.sheet h.has_sheet).one_entry_each ∙ whole.residents
 
--- if all numbers of a list are below n, each item of the list is below n
 pub below_at : (n : ℕ) (xs : List ℕ) (i p : ℕ) → i < length xs → list_all (λ x. nat_lt x n) xs ≡ true → slice_get xs i ≡ Some p → p < n
 below_at n xs i p lt all at =
     let below : nat_lt p n ≡ true = subst (λ x. nat_lt x n ≡ true) (get_or_from_slice_get xs i p 0 at) (list_all_true_at (λ x. nat_lt x n) xs i 0 lt all) in

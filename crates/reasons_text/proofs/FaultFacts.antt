@@ -8,7 +8,7 @@ use Rattle.reasons_text.specs.Keys.{HasBadRow, unnamed}
 use Rattle.reasons_text.specs.declared.fault.WhyFault.{WhyFault}
 use Rattle.reasons_text.specs.declared.fault.WhyFault.TheVariants.{Docket}
 
--- a key whose names can't be read has a bad row, or memory ran out
+-- if the names of a key can't be read, the key has a bad row, or memory ran out
 pub key_fault : (d : Contents) (key : Option (List ℕ)) (fault : WhyFault) → IsSomeAnd key (λ bytes. IsKeyFault d bytes fault)
     → (fault ≡ Docket docket.Memory) ⊎ IsSomeAnd key (λ bytes. HasBadRow d (unnamed d) bytes fault)
 key_fault d None fault h = absurd h

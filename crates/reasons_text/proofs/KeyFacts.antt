@@ -13,13 +13,14 @@ or_none None b h = (refl, h)
 or_none (Some x) b h = absurd (cc h)
 
 module _ (d : Contents) where
-  -- the names of two lists of rows, one after the other, are those of the first list with the second list's names added
+  -- the names that two joined lists of rows give are the names of the first list with the names of the second list
+  -- added
   added_after : (key : KeyNames) (done rest : List Fields) → all_added d key (done ++ rest) ≡ all_added d (all_added d key done) rest
   unfolding all_added
   added_after key [] rest = refl
   added_after key (row ∷ more) rest = added_after (added d key row) more rest
 
-  -- if the first rows have no fault, the first fault of all rows is the first fault of the rows after them
+  -- if the first rows have no fault, the first fault of all rows is the first fault of the remaining rows
   fault_after : (key : KeyNames) (n : ℕ) (done rest : List Fields) → fault_from d key n done ≡ None
       → fault_from d key n (done ++ rest) ≡ fault_from d (all_added d key done) (n + length done) rest
   unfolding fault_from all_added
@@ -38,13 +39,14 @@ module _ (d : Contents) where
   unfolding fault_from
   none_bad key = refl
 
-  -- if the names so far are those that the rows so far add, they are so after one more row was added
+  -- if the names of the rows read were added, and the names of one more row are added, the names are
+  -- right for these rows
   pub one_added : (key now new : KeyNames) (done : List Fields) (row : Fields) → now ≡ all_added d key done → new ≡ added d now row
       → new ≡ all_added d key (done ++ row ∷ [])
   unfolding all_added
   one_added key now new done row was is = is ∙ ap (λ (k : KeyNames). added d k row) was ∙ sym (added_after key done (row ∷ []))
 
-  -- if the rows so far have no fault, the first fault of these rows and the next row is the next row's fault
+  -- if the rows read have no fault, the first fault of these rows and the next row is the next row's fault
   pub next_fault : (key now : KeyNames) (done : List Fields) (row : Fields) (count : ℕ) (fault : Option WhyFault) → now ≡ all_added d key done
       → length done ≡ count → fault_from d key 0 done ≡ None → row_fault d now (count + 1) row ≡ fault → fault_from d key 0 (done ++ row ∷ []) ≡ fault
   unfolding fault_from

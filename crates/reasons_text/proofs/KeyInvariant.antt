@@ -8,7 +8,7 @@ use Rattle.records.specs.Reading.{Fields, IsSource}
 use Rattle.reasons_text.specs.Keys.{all_added, fault_from, key_config}
 use Rattle.reasons_text.specs.Naming.{KeyNames}
 
--- the bytes that remain in a slice: all of them
+-- the bytes that a slice still has to give: all its bytes
 abbrev pub bytes_left : Bor (List ℕ) → Option (List ℕ)
 bytes_left slice = Some slice.now
 

@@ -28,13 +28,14 @@ owner_same r n is = rw is refl
 owner_apart : (r n : ℕ) → (r == n) ≡ false → owner_with (One r) n ≡ Several
 owner_apart r n not = rw not refl
 
--- if the members found before are all below n, member n is counted as a further member
+-- member n was not counted among the members below n, so it is counted as a further member
 owner_also : (test : ℕ → Bool) (n : ℕ) (owner : Meant) → IsMeantBelow test n owner → owner_with owner n ≡ also_of owner n
 owner_also test n Nobody h = refl
 owner_also test n (One r) h = let lt = h.0 in owner_apart r n (ne_eqb r n (λ same. absurd (omega (arith, lt, same))))
 owner_also test n Several h = refl
 
--- who has a name among the first n + 1 members, by whether member n has the name
+-- the members among the first n + 1 who have a name: those among the first n, and member n if it
+-- has the name
 pub owner_more : (test : ℕ → Bool) (n : ℕ) (owner : Meant) → IsMeantBelow test n owner
     → IsMeantBelow test (n + 1) (if test n then owner_with owner n else owner)
 owner_more test n owner h = elim (cases_Bool (test n)) [
@@ -58,8 +59,8 @@ two_notes true false old mid new n h k = k ∙ h
 two_notes false true old mid new n h k = k ∙ rw h refl
 two_notes false false old mid new n h k = k ∙ h
 
--- if member n was noted for the names that pass one test, then for those that pass another, it was
--- noted for the names that pass either
+-- if member n was noted for the names that pass a first test, and then for the names that pass a
+-- second test, it was noted for the names that pass either test
 pub both_noted : {S : Type 0} (old mid new : HashMap (Bor (List ℕ)) Meant S) (a b : List ℕ → Bool) (n : ℕ) → Notes old mid a n → Notes mid new b n → Notes old new (λ text. a text || b text) n
 both_noted old mid new a b n h k text = two_notes (a text) (b text) (owner_in old text) (owner_in mid text) (owner_in new text) n (h text) (k text)
 
@@ -76,7 +77,7 @@ row_name d side read name n is = rw (is, (bytes_eq-Decides name name).1 refl) (e
     either true = refl
     either false = refl
 
--- if two different members pass a test, one of them is not member n
+-- if two different members pass a test, a member other than n passes it
 other_of_two : (test : ℕ → Bool) (n : ℕ) (a b : ℕ) → a < b → test a ≡ true → test b ≡ true → (k : ℕ) × ((k ≢ n) × (test k ≡ true))
 other_of_two test n a b lt one other = elim (cases_Bool (a == n)) [
   | inl is ↦ (b, ((λ same. absurd (omega (arith, lt, same, eqb-true a n is))), other))
@@ -84,7 +85,7 @@ other_of_two test n a b lt one other = elim (cases_Bool (a == n)) [
 ]
 
 module _ (d : Contents) (side : Side) (read : SideNames) (n : ℕ) where
-  -- if another member has the same name, the label is shown, whichever member was noted for the name
+  -- a label is shown exactly if the name was noted for several members
   shown_where : (name sign : List ℕ) (owner : Meant) → IsOwner d side read name owner → text_at read.names n ≡ Some name
       → IsShared d side read name n → label_where owner name sign ≡ label_of name sign
   shown_where name sign Several h own shared = refl

@@ -34,8 +34,8 @@ zip_here : {A B : Type 0} (ks : List A) (vs : List B) (k : ℕ) (a : A) (b : B) 
     → get_or (zip ks vs) k (a, b) ≡ (a, b)
 zip_here ks vs k a b in_ks in_vs e w = get_or-zip ks vs k (a, b) in_ks in_vs ∙ pair_same _ _ _ _ (sym e) (sym w)
 
--- if the text has the lines about the first k items, and the next line was added, it has those about
--- the first k + 1
+-- if the text has the lines about the first k items, and the next line is added, it has the lines
+-- about the first k + 1
 pub line_next : {A B : Type 0} (f : A × B → List ℕ) (ks : List A) (vs : List B) (k : ℕ) (a : A) (b : B) (start old new : List ℕ) →
     k < length ks → k < length vs → a ≡ get_or ks k a → b ≡ get_or vs k b → old ≡ start ++ flat_map f (take k (zip ks vs)) → new ≡ old ++ f (a, b)
     → new ≡ start ++ flat_map f (take (k + 1) (zip ks vs))
@@ -43,8 +43,8 @@ line_next f ks vs k a b start old new in_ks in_vs e w so_far more =
     more ∙ ap (λ (t : List ℕ). t ++ f (a, b)) so_far ∙ append_assoc start (flat_map f (take k (zip ks vs))) (f (a, b))
     ∙ ap (λ (t : List ℕ). start ++ t) (sym (taken_next f (zip ks vs) k (a, b) (zip_within ks vs k in_ks in_vs) (zip_here ks vs k a b in_ks in_vs e w)))
 
--- if the table has the rows about the first k items, and the next row was added, it has those about the
--- first k + 1
+-- if the table has the rows about the first k items, and the next row is added, it has the rows about
+-- the first k + 1
 pub row_next : {W A B : Type 0} (contents : W → Option (List ℕ)) (f : ℕ × (A × B) → List ℕ) (ks : List A) (vs : List B) (k : ℕ) (a : A) (b : B)
     (start old new : RowWriter W) → k < length ks → k < length vs → a ≡ get_or ks k a → b ≡ get_or vs k b
     → Adds contents start old (flat_map f (take k (enumerate_from 1 (zip ks vs)))) → Adds contents old new (f (k + 1, (a, b)))
@@ -65,7 +65,7 @@ text_made names without_ranks r own with_own programmes reasons old mid new same
     rest ∙ ap (λ (t : List ℕ). t ++ lines names without_ranks r programmes reasons) (rw same at first)
     ∙ append_assoc old (first_line names r own programmes reasons) (lines names without_ranks r programmes reasons)
 
--- if an empty text became a text with a property by an addition, the added text has this property
+-- a text that was made by adding to an empty text is the added text
 pub of_new : (P : List ℕ → Type 0) (old new text : List ℕ) → text ≡ new → old ≡ [] → AppendsText P (Some old) (Some new) → P text
 of_new P old new text e none h = subst P (sym (e ∙ h.appended ∙ ap (λ (t : List ℕ). t ++ h.text) none)) h.wanted
 
@@ -96,7 +96,7 @@ rows_more contents c names without_ranks n a b d t h new more = record {
 
 -- a text was added to an empty buffer over a writer, and then the buffer was written out
 pub handed_over : {W : Type 0} (contents : W → Option (List ℕ)) (start last : RowWriter W) (old new : W) (none text : List ℕ) → start.writer.now ≡ old →
-    start.waiting.now.items ≡ none → none ≡ [] → Adds contents start last text → Writes contents last.writer.now new last.waiting.now.items
+    start.buffer.now.items ≡ none → none ≡ [] → Adds contents start last text → Writes contents last.writer.now new last.buffer.now.items
     → Appends (contents old) (contents new) text
 handed_over contents start last old new none text over holds empty added handed =
     sent contents start last (record { ref_ptr = start.writer.ref_ptr; ghost_name = start.writer.ghost_name; now = old }) new none text (refl, over, holds) empty

@@ -13,7 +13,6 @@ use Rattle.reasons_text.specs.declared.side.Side.{Side}
 pub meant_none : (test : ℕ → Bool) → IsMeantBelow test 0 Nobody
 meant_none test k h = absurd (omega (arith, h))
 
--- a number below n + 1 is below n, or it is n
 next_or : (k n : ℕ) → k < n + 1 → (k < n) ⊎ (k ≡ n)
 next_or k n h = elim (cases_lt k n) [
   | inl below ↦ inl below
@@ -41,7 +40,7 @@ meant_skip test n (One r) h unmet = (
 )
 meant_skip test n Several h unmet = (h.0, (h.1.0, (h.1.1.0, (let lt = h.1.1.1.0 in omega (arith, lt), h.1.1.1.1))))
 
--- if a text means member n, it means member n besides the members below n
+-- if a text means member n, it means, below n + 1, member n and the members that it means below n
 pub meant_also : (test : ℕ → Bool) (n : ℕ) (meant : Meant) → IsMeantBelow test n meant → test n ≡ true → IsMeantBelow test (n + 1) (also_of meant n)
 meant_also test n Nobody h met = (
   omega arith,

@@ -51,8 +51,8 @@ module _ (lookup : List ℕ → Option ℕ) (name : List ℕ) (n : ℕ) where
     | inr not ↦ put text ∙ rw (not, other_both name text not) (sym (or_nothing (lookup text)))
   ]
 
--- for each name the number of the first of n + 1 members with it is that of the first of n, or else
--- n if member n has the name
+-- the first of n + 1 members with a name is the first of n members with it, or else member n, if
+-- member n has the name
 pub number_more : (d : Contents) (side : Side) (n : ℕ) (own : List ℕ) (lookup now : List ℕ → Option ℕ) → own ≡ docket_name d side n
     → ((name : List ℕ) → lookup name ≡ first_named d side name n)
     → ((name : List ℕ) → now name ≡ option_or (lookup name) (if bytes_eq name own then Some n else None)) → (name : List ℕ) → now name ≡ first_named d side name (n + 1)

@@ -51,8 +51,8 @@ still_named d side done row fields n some =
     by None h = absurd (cc h)
     by (Some r) h = h
 
--- the real names of a side's members after one more row: the row's member has one from this row, if there
--- was none before
+-- the real names of a side's members after one more row: the row gives its member a real name if the
+-- member had none
 pub named_more : (d : Contents) (side : Side) (done : List Fields) (row : Fields) (names : List (Option Fields)) → AreNamed d side done names
     → AreNamed d side (done ++ row ∷ []) (with_first names (named_by d side row) (real_fields row))
 named_more d side done row names h = by (named_by d side row) refl
@@ -87,8 +87,7 @@ named_more d side done row names h = by (named_by d side row) refl
                 ∙ get_or-set_same names m (Some (real_fields row)) None (omega (arith, within, e, h.each))
                 ∙ sym (first_named d side done row n (names_it n ∙ same) none)
 
--- the real names of both sides after one more row are those before, with the row's own added if its member
--- had none
+-- one more row adds its real name to those of both sides, if its member had none
 pub real_more : (d : Contents) (done : List Fields) (row : Fields) (real : Real) → AreRealIn d done real → AreRealIn d (done ++ row ∷ []) (with_row d real row)
 real_more d done row real h = record { programmes = named_more d Programmes done row real.programmes h.programmes; residents = named_more d Residents done row real.residents h.residents }
 
@@ -97,7 +96,7 @@ or_none None b h = (refl, h)
 or_none (Some x) b h = absurd (cc h)
 
 module _ (d : Contents) where
-  -- if the first rows have no fault, the first fault of all rows is the first fault of the rows after them
+  -- if the first rows have no fault, the first fault of all rows is the first fault of the remaining rows
   pub real_fault_after : (key : KeyNames) (n : ℕ) (done rest : List Fields) → real_fault_from d key n done ≡ None
       → real_fault_from d key n (done ++ rest) ≡ real_fault_from d (all_added d key done) (n + length done) rest
   unfolding real_fault_from all_added
@@ -117,7 +116,7 @@ module _ (d : Contents) where
       ∙ ap (λ (o : Option NamesFault). option_or o (real_fault_from d (added d (all_added d key done) row) (length done + 1) rest))
       (ap (λ (k : KeyNames). real_fault d k (length done + 1) row) (sym was) ∙ here)
 
-  -- if the rows so far have no fault and the next row has none, the rows with this one have none
+  -- if the rows read have no fault and the next row has none, all these rows have none
   pub real_fault_more : (key now : KeyNames) (done : List Fields) (row : Fields) → real_fault_from d key 0 done ≡ None → now ≡ all_added d key done
       → real_fault d now (length done + 1) row ≡ None → real_fault_from d key 0 (done ++ row ∷ []) ≡ None
   unfolding real_fault_from
@@ -126,7 +125,8 @@ module _ (d : Contents) where
       real_fault_after key 0 done (row ∷ []) good ∙ ap (λ k. real_fault_from d (all_added d key done) k (row ∷ [])) there
       ∙ ap (λ (o : Option NamesFault). option_or o None) (ap (λ (k : KeyNames). real_fault d k (length done + 1) row) (sym was) ∙ here)
 
--- the names of a key's rows so far, as the key and the real names keep them
+-- the key and the real names have the names in the rows of a key that were read, and these rows
+-- have no fault
 pub record HasNamed (d : Contents) (done : List Fields) (key : KeyNames) (real : Real) : Type 0 where
   pub key_is : key ≡ all_added d (unnamed d) done
   pub clear : real_fault_from d (unnamed d) 0 done ≡ None
@@ -160,12 +160,12 @@ rows_split rows k r within here =
 pub rows_before : (rows : List Row) (k : ℕ) → k < length rows → length (take k (map fields_of rows)) ≡ k
 rows_before rows k within = length-take-le k (map fields_of rows) (omega (arith, within, length-map rows fields_of))
 
--- if the names of the first k rows were noted, and there are at most k rows, those of all rows were noted
+-- if the names of the first k rows were noted, and there are at most k rows, the names of all rows were
+-- noted
 pub has_all : (d : Contents) (rows : List Fields) (k : ℕ) (key : KeyNames) (real : Real) → length rows ≤ k → HasNamed d (take k rows) key real → HasNamed d rows key real
 has_all d rows k key real past h = rw (take_all k rows past) at h
 
--- if the names of the first k rows were noted without a fault, a fault of the next row is the first of all
--- rows
+-- if the first k rows were noted without a fault, a fault of the next row is the first fault of all rows
 pub has_fault : (d : Contents) (rows : List Row) (k : ℕ) (r : Row) (key : KeyNames) (real : Real) (fault : NamesFault) → k < length rows → r ≡ get_or rows k r
     → HasNamed d (take k (map fields_of rows)) key real → real_fault d key (k + 1) (fields_of r) ≡ Some fault → real_fault_from d (unnamed d) 0 (map fields_of rows) ≡ Some fault
 has_fault d rows k r key real fault within here h at =
@@ -173,7 +173,6 @@ has_fault d rows k r key real fault within here h at =
     ap (real_fault_from d (unnamed d) 0) (rows_split rows k r within here)
     ∙ real_fault_next d (unnamed d) key (take k (map fields_of rows)) (drop (k + 1) (map fields_of rows)) (fields_of r) fault h.clear h.key_is (rw place at)
 
--- an option is none after its value was mapped exactly if it was none before
 pub is_none_too : {A B : Type 0} (f : A → B) (o : Option A) → is_none (option_map f o) ≡ is_none o
 is_none_too f None = refl
 is_none_too f (Some x) = refl

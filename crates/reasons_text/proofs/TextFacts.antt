@@ -1,4 +1,4 @@
--- Whether a field's bytes are text, by a test that the code makes.
+-- The code's test whether a field's bytes are text.
 use Rattle.std.proofs.Common.{◌≡◌, inl, inr, true, false, List, ℕ}
 use Rattle.std.specs.Str.{IsUtf8, is_utf8}
 use Rattle.std.proofs.lemmas.Bool.{cases_Bool}

@@ -1,4 +1,4 @@
--- What a question does, once it is known whom a text means.
+-- The answer to a question, once it is known whom its texts mean.
 use Rattle.std.proofs.Common.{◌≡◌, ◌≤◌, ◌<◌, ℕ, Bool, true, false, List, refl, arith, rules}
 use Rattle.reasons_text.specs.Naming.{IsMeant, MeansAlone, MeansNoMember, MeansTwo, Naming, means, member_count}
 use Rattle.reasons_text.specs.declared.names.Meant.TheVariants.{Nobody, One, Several}

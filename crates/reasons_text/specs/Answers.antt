@@ -12,8 +12,8 @@ use Rattle.docket.specs.Fields.{lone_byte}
 use Rattle.docket.specs.Texts.{programme_name, resident_name}
 use Rattle.docket.specs.WithLists.{IsReadWithin, fields_after}
 
--- a docket with its sheet and its lists as written; for the first programmes, up to some number, a case also has how
--- their places are taken
+-- a docket with its sheet and its lists as written; `takens` says for some first programmes, or for all, how their
+-- places are taken
 pub record CaseParts : Type 0 where
   pub docket : Contents
   pub sheet : List (Option ℕ)
@@ -39,22 +39,24 @@ pub record IsCase (c : CaseParts) : Type 0 where
 abbrev pub names_of : Contents → List ℕ → List (List ℕ)
 names_of d programmes = map (programme_name d) programmes
 
--- whatever bytes were read within any limits, these are the programmes in the R record of resident r, in order
+-- these are the programmes in resident r's R record, in order, whichever bytes and limits the docket was read
+-- with
 abbrev pub AreOfRecord : Contents → Written → ℕ → List ℕ → Type 0
 AreOfRecord d written r programmes = (limits : Limits) (bytes : Option (List ℕ)) (read : IsReadWithin limits bytes d written)
     → names_of d programmes ≡ fields_after (lone_byte (codes "R")) (resident_name d r) read.rows
 
--- the answer is the first that holds for r and p
+-- the answer is the first possible answer that is true of r and p
 abbrev pub IsAnswer : CaseParts → ℕ → ℕ → Why → Type 0
 IsAnswer c r p reason =
     IsFirst c.docket.instance (list_at c.written.resident_lists r) (list_at c.written.programme_lists p) c.sheet r p reason
 
--- for each of these programmes there is an answer, and it is the first that holds for r and this programme
+-- each of these programmes has an answer: the first possible answer that is true of r and the programme
 abbrev pub AreFirst : CaseParts → ℕ → List ℕ → List Why → Type 0
 AreFirst c r programmes reasons =
     (i p : ℕ) (reason : Why) → slice_get programmes i ≡ Some p → slice_get reasons i ≡ Some reason → IsAnswer c r p reason
 
--- r gets one answer for each programme of r's list, in order; each is the first answer that holds
+-- r gets one answer for each programme on r's list, in order; each is the first possible answer
+-- that is true
 pub record AreAnswers (c : CaseParts) (r : ℕ) (programmes : List ℕ) (reasons : List Why) : Type 0 where
   pub listed : programmes ≡ list_at c.written.resident_lists r
   pub each : length reasons ≡ length programmes

@@ -37,7 +37,7 @@ chosen marks =
     else if nat_lt marks.commas marks.tabs then 9
     else 44
 
--- The mark that separates the fields: comma, semicolon or tab. The first line that has any of them outside quotes
--- decides; the most frequent mark wins.
+-- The mark that separates the fields: comma, semicolon or tab. It is the most frequent mark in the first line
+-- that has a mark outside quotes.
 abbrev pub delimiter_of : List ℕ → ℕ
 delimiter_of bytes = chosen (marks_of no_marks bytes)

@@ -1,4 +1,4 @@
--- Why an answer was not written, or not all of it.
+-- Why no complete answer was written.
 use Rattle.std.specs.Prelude.{◌≡◌, ◌⊎◌, ℕ, Option, Some, None, List, IfSome, IsSomeAnd}
 use Rattle.docket.specs.Answers.{Stops}
 use Rattle.docket.specs.Contents.{Contents}
@@ -32,14 +32,14 @@ pub record HasNoSheetWithin (limits : Limits) (bytes : Option (List ℕ)) : Type
   pub read : IsReadWithin limits bytes docket written
   pub none : docket.sheet ≡ None
 
--- why a docket that was read gives no case: it has no sheet, or memory ran out
+-- why a docket that was read cannot be asked about: it has no sheet, or memory ran out
 abbrev pub IsOfNoCase : Contents → WhyFault → Type 0
 IsOfNoCase d NoSheet = d.sheet ≡ None
 IsOfNoCase d (Docket e) = e ≡ docket.Memory
 IsOfNoCase d fault = ⊥
 
--- Why no docket with a sheet was read within these limits. If the machine had no random bytes, the fault is one of
--- reading.
+-- Why no docket with a sheet was read within these limits. If the machine had no random bytes, the fault is a
+-- fault of the reader.
 abbrev pub IsCaseFaultWithin : Limits → Option (List ℕ) → WhyFault → Type 0
 IsCaseFaultWithin limits bytes (Docket e) = IsReadFault e ⊎ (e ≡ docket.Memory)
 IsCaseFaultWithin limits bytes (Reading e) = IsDocketFault limits bytes e
@@ -77,7 +77,7 @@ IsAskedFault names (asked.Resident name) fault = IsNameFault names Residents nam
 IsAskedFault names (asked.Pair resident programme) fault =
     IsNameFault names Residents resident.now fault ⊎ IsNameFault names Programmes programme.now fault
 
--- a name of the question does not mean exactly one member, by the names of this docket and this key
+-- by the names of this docket and this key, a name of the question does not mean exactly one member
 pub record IsUnmet (c : CaseParts) (key : Option (List ℕ)) (question : Asked) (fault : WhyFault) : Type 0 where
   pub names : Naming
   pub names_are : AreNames c.docket key names

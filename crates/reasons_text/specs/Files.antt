@@ -1,4 +1,4 @@
--- What is answered over a docket's file and a sheet's file, each read as its own part.
+-- The answer over a docket's file and a sheet's file, each read as its own part.
 use Rattle.std.specs.Prelude.{◌≡◌, ◌⊎◌, ℕ, Bool, Option, Some, None, List, []}
 use Rattle.docket.specs.Contents.{Contents}
 use Rattle.docket.specs.Parts.{IsInFilesWithLists, Tells, fault_of_files}
@@ -33,7 +33,7 @@ pub record AnswersFilesWithin (limits : Limits) (docket sheet : List ℕ) (key :
 abbrev pub AnswersFiles : List ℕ → List ℕ → Option (List ℕ) → Asked → Bool → List ℕ → Type 0
 AnswersFiles docket sheet key question without_ranks text = AnswersFilesWithin Standard docket sheet key question without_ranks text
 
--- a fault in this file; memory that ran out has no file
+-- a fault of this file's records; out of memory is no file's fault
 abbrev pub told_in : Part → RecordsFault → WhyFault
 told_in file (rf.Docket df.Memory) = Docket df.Memory
 told_in file fault = Records file fault
@@ -65,10 +65,10 @@ abbrev pub IsFilesTellFault : Limits → List ℕ → List ℕ → Option (List 
 IsFilesTellFault limits docket sheet key question fault = IsFilesCaseFault limits docket sheet fault
     ⊎ ((c : CaseParts) × (IsCaseInFiles limits docket sheet c × IsTextFault c key question fault))
 
--- why an answer over files was not written, or not all of it, within these limits
+-- why no complete answer over files was written, within these limits
 abbrev pub IsFilesFaultWithin : Limits → List ℕ → List ℕ → Option (List ℕ) → Asked → WhyFault → Type 0
 IsFilesFaultWithin limits docket sheet key question fault = (fault ≡ Docket df.Write) ⊎ IsFilesTellFault limits docket sheet key question fault
 
--- why an answer over files was not written, or not all of it, within the standard limits
+-- why no complete answer over files was written, within the standard limits
 abbrev pub IsFilesFault : List ℕ → List ℕ → Option (List ℕ) → Asked → WhyFault → Type 0
 IsFilesFault docket sheet key question fault = IsFilesFaultWithin Standard docket sheet key question fault

@@ -16,8 +16,8 @@ use Rattle.reasons_text.specs.declared.fault.WhyFault.TheVariants.{BadKey, Doubl
 use Rattle.reasons_text.specs.declared.side.Side.{Side}
 use Rattle.reasons_text.specs.declared.side.Side.TheVariants.{Programmes, Residents}
 
--- how a key's rows are read: as `csv` does by default, but with the key's mark between fields; `AreKeyRows` are all
--- rows of these bytes
+-- how a key's rows are read: as `csv` does by default, but with the key's own mark between fields; `AreKeyRows`
+-- says that these are all rows of these bytes
 abbrev pub key_config : List ℕ → Config
 key_config bytes = record default_config { delimiter = delimiter_of bytes }
 
@@ -41,7 +41,8 @@ is_blank_below row (suc n) = is_blank_below row n && length (field row n) == 0
 abbrev pub is_blank : Fields → Bool
 is_blank row = is_blank_below row (length row)
 
--- the sign of a row's member: the ID, or without an ID the docket's name
+-- the sign that tells a row's member from others of the same name: the ID, or without an ID the
+-- docket's name
 abbrev pub sign_in : Fields → List ℕ
 sign_in row = if length (field row 3) == 0 then field row 1 else field row 3
 
@@ -54,18 +55,18 @@ first_named d side name (suc n) = option_or (first_named d side name n) (if byte
 abbrev pub member_of : Contents → Side → Fields → Option ℕ
 member_of d side row = first_named d side (field row 1) (member_count d side)
 
--- The names of a side with this name and this sign added. They stand at the member's place, or after all members if
--- the docket does not have the member.
+-- The names of a side after this name and this sign were added: at the member's place, or after all members if the
+-- docket does not have the member.
 abbrev pub noted : SideNames → Option ℕ → List ℕ → List ℕ → SideNames
 noted side None name sign = record side { names = side.names ++ name ∷ []; signs = side.signs ++ sign ∷ [] }
 noted side (Some n) name sign = record side { names = slice_set side.names n name; signs = slice_set side.signs n sign }
 
--- whether the member has no row yet
+-- whether no earlier row of the key has the member
 abbrev pub is_free : SideNames → Option ℕ → Bool
 is_free side None = true
 is_free side (Some n) = is_none (text_at side.names n)
 
--- the names of a side with those of the row added, as they are shown
+-- the names of a side, as they are shown, with the names of one more row
 abbrev pub with_row : Contents → Side → Fields → SideNames → SideNames
 with_row d side row names = noted names (member_of d side row) (shown_text (field row 2)) (shown_text (sign_in row))
 
@@ -77,7 +78,8 @@ side_fault d side names place row =
     else if not (is_utf8 (field row 2) && is_utf8 (sign_in row)) then Some (BadKey place)
     else None
 
--- the fault of a row, which belongs to one side or to none, after the rows that gave these names
+-- the fault of a key's next row after rows that gave these names; a row of no side has a fault
+-- unless it is blank
 abbrev pub fault_by_side : Contents → KeyNames → ℕ → Fields → Option Side → Option WhyFault
 fault_by_side d key place row None = if is_blank row then None else Some (BadKey place)
 fault_by_side d key place row (Some Programmes) = side_fault d Programmes key.programmes place row
@@ -86,7 +88,7 @@ fault_by_side d key place row (Some Residents) = side_fault d Residents key.resi
 abbrev pub row_fault : Contents → KeyNames → ℕ → Fields → Option WhyFault
 row_fault d key place row = fault_by_side d key place row (row_side row)
 
--- the names with those of a row added; a row that belongs to no side adds none
+-- the names after those of one more row were added; a row of no side adds no name
 abbrev pub added_by_side : Contents → KeyNames → Fields → Option Side → KeyNames
 added_by_side d key row None = key
 added_by_side d key row (Some Programmes) = record key { programmes = with_row d Programmes row key.programmes }
@@ -95,7 +97,7 @@ added_by_side d key row (Some Residents) = record key { residents = with_row d R
 abbrev pub added : Contents → KeyNames → Fields → KeyNames
 added d key row = added_by_side d key row (row_side row)
 
--- the names with those of all these rows added, one row after another
+-- the names after those of all these rows were added, one row after another
 unfoldable pub all_added : Contents → KeyNames → List Fields → KeyNames
 all_added d key [] = key
 all_added d key (row ∷ rest) = all_added d (added d key row) rest
@@ -112,12 +114,12 @@ unnamed_side count = record { names = replicate count []; signs = replicate coun
 abbrev pub unnamed : Contents → KeyNames
 unnamed d = record { residents = unnamed_side (member_count d Residents); programmes = unnamed_side (member_count d Programmes) }
 
--- the text also means another member of the side; rows of members outside the docket count too
+-- the text also means another member of the side; members whom only the key has count too
 abbrev pub IsShared : Contents → Side → SideNames → List ℕ → ℕ → Type 0
 IsShared d side read text n = (k : ℕ) × ((k ≢ n) × (is_meant d side read text k ≡ true))
 
--- The label of a member: the real name with the sign if a question with this name alone means another member too, else
--- nothing. A member without a name in the key has no label.
+-- The label of a member: the real name with the sign if the real name alone means another member too, else nothing. A
+-- member without a name in the key has no label.
 pub record IsLabel (d : Contents) (side : Side) (read : SideNames) (n : ℕ) (label : List ℕ) : Type 0 where
   pub shared : (name : List ℕ) → text_at read.names n ≡ Some name → IsShared d side read name n → label ≡ label_of name (unwrap_or (text_at read.signs n) [])
   pub alone : (name : List ℕ) → text_at read.names n ≡ Some name → (IsShared d side read name n → ⊥) → label ≡ []

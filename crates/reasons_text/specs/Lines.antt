@@ -60,7 +60,8 @@ sentence names without_ranks r (Full rank last_rank quota) = full_sentence witho
 sentence names without_ranks r Blocking =
     codes "you would rather be here, and it would rather have you. This sheet is not right: please tell the office."
 
--- the line for resident r about programme p: the programme's name, the sentence, and a line feed
+-- the line for resident r about programme p: the programme's name, the sentence about it, and a
+-- line feed
 unfoldable pub line : Naming → Bool → ℕ → ℕ → Why → List ℕ
 line names without_ranks r p reason = shown_programme names p ++ codes ": " ++ sentence names without_ranks r reason ++ codes "\n"
 
@@ -69,7 +70,8 @@ abbrev pub lines : Naming → Bool → ℕ → List ℕ → List Why → List �
 lines names without_ranks r programmes reasons =
     flat_map (λ (told : ℕ × Why). line names without_ranks r told.0 told.1) (zip programmes reasons)
 
--- the words for a resident's own programme, and for its number among the resident's choices
+-- the sentence for a matched resident: the name of the programme, and which of the resident's
+-- choices it is
 unfoldable pub as_choice : List ℕ → ℕ → ℕ → List ℕ
 as_choice name choice listed =
     codes "You are matched with " ++ (name ++ (codes ", your " ++ (place_text choice ++ (codes " choice of " ++ (decimal listed ++ codes ".")))))

@@ -123,7 +123,7 @@ is_meant d side key text n = is_own d side n text || is_by_key (text_at key.name
 abbrev pub means : Naming → Side → List ℕ → ℕ → Bool
 means names side text n = is_meant names.docket side (names_in names side) text n
 
--- for which of the numbers below n the test is true: for nobody, for this one alone, or for more than one
+-- for which numbers below n the test is true: for none, for one number alone, or for several
 abbrev pub IsMeantBelow : (ℕ → Bool) → ℕ → Meant → Type 0
 IsMeantBelow test n Nobody = (k : ℕ) → k < n → test k ≡ false
 IsMeantBelow test n (One r) = (r < n) × ((test r ≡ true) × ((k : ℕ) → k < n → test k ≡ true → k ≡ r))
@@ -135,7 +135,7 @@ also_of Nobody n = One n
 also_of (One r) n = Several
 also_of Several n = Several
 
--- whom the text means among all who have names
+-- whom the text means among the docket's members and the key's other members
 pub record IsMeant (names : Naming) (side : Side) (text : List ℕ) (meant : Meant) : Type 0 where
   pub named : ℕ
   pub all : (k : ℕ) → means names side text k ≡ true → k < named

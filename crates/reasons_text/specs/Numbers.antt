@@ -1,4 +1,5 @@
--- What the code keeps while it reads a key: each member's number by name, and whom each text means.
+-- What the code keeps while it reads a key: the number of each name's member, and whom each text
+-- means.
 use Rattle.std.specs.Prelude.{◌≡◌, ℕ, ◌<◌, ◌≤◌, ◌==◌, Bool, true, if◌then◌else◌, unwrap_or, Option, Some, None, List, [], bytes_eq, length, option_map, slice_index_or}
 use Rattle.std.specs.Borrow.{Bor}
 use Rattle.std.specs.HashMap.{HashMap, get_by}
@@ -22,7 +23,7 @@ AreNumbersOf d side numbers = (name : List ℕ) → number_in numbers name ≡ f
 abbrev pub AreNumbers : MemberNumbers → Type 0
 AreNumbers numbers = AreNumbersOf numbers.docket.now Residents numbers.residents × AreNumbersOf numbers.docket.now Programmes numbers.programmes
 
--- whom a text means once it means this member too
+-- whom a text means after one more member was found that it means
 abbrev pub owner_with : Meant → ℕ → Meant
 owner_with Nobody n = One n
 owner_with (One r) n = if r == n then One r else Several
@@ -45,17 +46,17 @@ AreOwners d side read owners = (text : List ℕ) → IsOwner d side read text (o
 abbrev pub Notes : {S : Type 0} → HashMap (Bor (List ℕ)) Meant S → HashMap (Bor (List ℕ)) Meant S → (List ℕ → Bool) → ℕ → Type 0
 Notes old new test n = (text : List ℕ) → owner_in new text ≡ (if test text then owner_with (owner_in old text) n else owner_in old text)
 
--- the label of a member by its names in the key, or nothing if it has no name there
+-- the member's real name with its sign, or nothing if the key has no name for the member
 abbrev pub full_label : SideNames → ℕ → List ℕ
 full_label read n = unwrap_or (option_map (λ name. label_of name (unwrap_or (text_at read.signs n) [])) (text_at read.names n)) []
 
--- the labels of all who have names: of the docket's members, and of the key's rows
+-- the labels of all who may have names: the docket's members, and the members whom only the key has
 pub record AreFull (d : Contents) (side : Side) (read : SideNames) (labels : List (List ℕ)) : Type 0 where
   pub members : member_count d side ≤ length labels
   pub rows : length read.names ≤ length labels
   pub are : (n : ℕ) → n < length labels → slice_index_or labels n [] ≡ full_label read n
 
--- the label for a name that means these: the name with its sign if they are several, else nothing
+-- the label of a member: the name with the sign if the name means several members, else nothing
 abbrev pub label_where : Meant → List ℕ → List ℕ → List ℕ
 label_where Several name sign = label_of name sign
 label_where Nobody name sign = []

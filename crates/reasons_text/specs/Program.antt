@@ -16,11 +16,12 @@ use Rattle.reasons_text.specs.declared.fault.WhyFault.{WhyFault}
 use Rattle.reasons_text.specs.declared.fault.WhyFault.TheVariants.{Docket}
 use Rattle.reasons_text.specs.declared.question.Question.{Question}
 
--- nothing, or why there is no answer
+-- whether there is an answer, and if not, why
 abbrev pub Answer : Type 0
 Answer = Result (Unit {0}) WhyFault
 
--- a text with this property was appended, or this fault is true; before any fault other than the writer's nothing was written
+-- a text with this property was appended, or a fault with this property occurred; nothing was written before a fault
+-- other than the writer's
 abbrev pub AppendsOrFails : (List ℕ → Type 0) → (WhyFault → Type 0) → Option (List ℕ) → Option (List ℕ) → Answer → Type 0
 AppendsOrFails Wanted IsFault old new answer = MatchResult answer
     (λ _. AppendsText Wanted old new)

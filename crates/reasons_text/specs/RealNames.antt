@@ -21,8 +21,8 @@ use Rattle.reasons_text.specs.declared.side.Side.TheVariants.{Programmes, Reside
 abbrev pub is_from_to : ℕ → ℕ → ℕ → Bool
 is_from_to first last c = nat_le first c && nat_le c last
 
--- whether the character isn't seen, or moves other text: a control character, U+061C, U+200E, U+200F, U+2028 to U+202E, or
--- U+2066 to U+2069
+-- whether the character is invisible or changes the direction of text: a control character, U+061C, U+200E, U+200F,
+-- U+2028 to U+202E, or U+2066 to U+2069
 abbrev pub is_hidden : ℕ → Bool
 is_hidden c = is_control c || c == 1564 || is_from_to 8206 8207 c || is_from_to 8232 8238 c || is_from_to 8294 8297 c
 
@@ -34,7 +34,7 @@ is_unclear text = if is_utf8 text then list_any is_hidden (chars text) else true
 abbrev pub is_long : List ℕ → Bool
 is_long text = nat_lt 10000 (length text)
 
--- what a row of a key tells of its member: the real name, and the ID if there is one
+-- what a row of a key says of its member: the real name, and the ID if there is one
 abbrev pub real_fields : Fields → Fields
 real_fields row = field row 2 ∷ (if length (field row 3) == 0 then [] else field row 3 ∷ [])
 
@@ -43,7 +43,7 @@ abbrev pub is_member : ℕ → Option ℕ → Bool
 is_member n None = false
 is_member n (Some m) = m == n
 
--- the member of a side that a row names, if the row is of this side and the docket has the member
+-- the member whom a row names, if the row is of this side and the docket has the member
 abbrev pub named_of : Contents → Side → Fields → Option Side → Option ℕ
 named_of d side row None = None
 named_of d Programmes row (Some Programmes) = member_of d Programmes row
@@ -118,7 +118,7 @@ IsNamesFault d bytes fault = IsOutOfMemory fault ⊎ ((fault ≡ Key (Docket (do
 abbrev pub nobody_named : Real
 nobody_named = record { programmes = []; residents = [] }
 
--- the names of a key, if there is one
+-- the real names that the key gives; without a key there are none
 abbrev pub AreReal : Contents → Option (List ℕ) → Real → Type 0
 AreReal d None real = real ≡ nobody_named
 AreReal d (Some bytes) real = IsRealOf d bytes real
@@ -127,12 +127,13 @@ AreReal d (Some bytes) real = IsRealOf d bytes real
 abbrev pub real_in : Option Row → Option Fields
 real_in kept = option_map fields_of kept
 
--- the names with these fields for this member, unless the member has a name already
+-- the real names, with those of a row with these fields if the member had none before
 abbrev pub with_first : List (Option Fields) → Option ℕ → Fields → List (Option Fields)
 with_first names None fields = names
 with_first names (Some m) fields = if is_none (slice_index_or names m None) then slice_set names m (Some fields) else names
 
--- the names of both sides with that in one more row, unless its member has a name already
+-- the real names of both sides after one more row: its name is added only if its member had none
+-- before
 abbrev pub with_row : Contents → Real → Fields → Real
 with_row d real row = record {
   programmes = with_first real.programmes (named_by d Programmes row) (real_fields row);

@@ -21,7 +21,7 @@ fault_status_of (ManyProgrammes told) = 3
 fault_status_of (Records file fault) = records_status_of fault
 fault_status_of EmptySheet = 3
 
--- the status where a key gives no names to seal
+-- the status after a key that gives no names to seal
 abbrev pub names_status_of : NamesFault → ℕ
 names_status_of (Key fault) = fault_status_of fault
 names_status_of (Hidden place) = 3

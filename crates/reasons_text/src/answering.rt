@@ -42,7 +42,7 @@ enum Told {
     Pair(ResidentNo, ProgrammeNo),
 }
 
-// Adds one line for each of these programmes. Reason `i` is the one in the line about programme `i`.
+// Adds one line for each of these programmes. Reason `i` goes into the line about programme `i`.
 fn push_each(
     alloc: Global,
     text: &mut String,
@@ -90,7 +90,7 @@ fn push_lines(
     push_each(alloc, text, manner, resident, list, reasons)
 }
 
-// Adds one row for each of these programmes. Reason `i` is the one in the row about programme `i`.
+// Adds one row for each of these programmes. Reason `i` goes into the row about programme `i`.
 fn push_rows<W: Write>(
     rows: &mut RowWriter<'_, W>,
     manner: &Manner,
@@ -222,7 +222,7 @@ fn line_of(
     ensures { IfOk result (λ text. IsLineOn case.now
         (naming_of manner.now.names) manner.now.without_ranks resident programme text.items) }
 {
-    let told = case.reason(resident, programme);
+    let reason = case.reason(resident, programme);
     let mut text = String::new(alloc);
     push_line(
         alloc,
@@ -230,19 +230,19 @@ fn line_of(
         &manner.names,
         resident,
         programme,
-        told,
+        reason,
         manner.without_ranks,
     )?;
     Ok(text.into_bytes())
 }
 
-// The text that answers the question, once its names are numbers.
-fn told_text(alloc: Global, case: &Case, manner: &Manner, told: Told) -> Result<Vec<u8>, AllocError>
-    requires { IsTold case.now.docket.instance told }
+// The text that answers the question, whose names were replaced by the members' numbers.
+fn told_text(alloc: Global, case: &Case, manner: &Manner, whom: Told) -> Result<Vec<u8>, AllocError>
+    requires { IsTold case.now.docket.instance whom }
     ensures { IfOk result (λ text.
-        IsTextOf case.now (naming_of manner.now.names) manner.now.without_ranks told text.items) }
+        IsTextOf case.now (naming_of manner.now.names) manner.now.without_ranks whom text.items) }
 {
-    match told {
+    match whom {
         Told::All => table_of(alloc, case, manner),
         Told::Resident(resident) => lines_of(alloc, case, manner, resident),
         Told::Pair(resident, programme) => line_of(alloc, case, manner, resident, programme),
@@ -264,7 +264,7 @@ fn named(alloc: Global, names: &Names, side: Side, name: &str) -> Result<u32, Wh
     }
 }
 
-// Whom the question is about, by the members' numbers; or the fault of a name in it.
+// Whom the question is about, by the members' numbers; or the fault of one of its names.
 fn told_of(alloc: Global, names: &Names, asked: Asked) -> Result<Told, WhyFault>
     ensures member { IfOk result (IsTold names.now.docket.now.instance) }
     ensures asks { IfOk result (Asks (naming_of names.now) asked.entry) }
@@ -284,7 +284,7 @@ fn told_of(alloc: Global, names: &Names, asked: Asked) -> Result<Told, WhyFault>
     }
 }
 
-// The real names that the key has for members. Without a key there are none.
+// The names that the key has for members. Without a key there are none.
 fn key_of(
     alloc: Global,
     keys: RandomState,
@@ -321,12 +321,12 @@ pub(crate) fn text_of(
     let docket = case.docket();
     let key = key_of(alloc, keys, docket, key_bytes)?;
     let names = Names { docket, key: &key };
-    let told = told_of(alloc, &names, asked)?;
+    let whom = told_of(alloc, &names, asked)?;
     let manner = Manner {
         names,
         without_ranks,
     };
-    Ok(told_text(alloc, case, &manner, told)?)
+    Ok(told_text(alloc, case, &manner, whom)?)
 }
 
 /// Reads a docket with a sheet within the standard limits, and writes the answer to the question. A question about a

@@ -23,8 +23,8 @@ use std::io::Read;
 use std::marker::Model;
 use std::random::RandomSource;
 
-/// A docket with a sheet, and the members' lists as they were written. For the first programmes, up to some number,
-/// the case also has how their places are taken.
+/// A docket with a sheet, and the members' lists as they were written. `takens` says for some first programmes, or
+/// for all, how their places are taken.
 pub struct Case {
     docket: Docket,
     lists: WrittenLists,
@@ -43,7 +43,7 @@ impl Model for Case {
         IsCase (case_of c.docket (unwrap_or c.docket.sheet []) c.lists c.takens.items) };
 }
 
-// One function drops the whole case. So a caller that drops a case need not prove anything about its parts.
+// One function drops the whole case: callers prove nothing about its parts.
 impl Drop for Case {
     fn drop(self) {
         let Case {
@@ -54,7 +54,7 @@ impl Drop for Case {
     }
 }
 
-// How a programme's places are taken: looked up, if it was counted before, else counted now.
+// How a programme's places are taken: looked up if this was counted before, else counted now.
 fn taken_of(listed: &Listed, sheet: &Assignment, takens: &[Taken], programme: ProgrammeNo) -> Taken
     requires { AreTaken listed.now.written sheet.now takens.now }
     ensures { IsTaken
@@ -117,7 +117,7 @@ fn answers_from(
     ensures record { IfOk result (λ answers.
         AreOfRecord docket.now lists.now resident answers.programmes.items) }
 {
-    // Only the proof needs this call: by its clause the docket has a name for each member, and its sheet names only
+    // For the proof alone: the docket has a name for each member, and its sheet names only
     // members.
     let _inst = docket.instance();
     let mut programmes = Vec::new(alloc);
@@ -135,14 +135,14 @@ fn answers_from(
     })
 }
 
-// A fault of the files, with its file. Running out of memory belongs to no file.
-fn in_its_file(there: FileFault) -> WhyFault
-    ensures { result ≡ spec.in_its_file there }
+// A fault of the files, with its file. Out of memory is no fault of a file.
+fn in_its_file(file_fault: FileFault) -> WhyFault
+    ensures { result ≡ spec.in_its_file file_fault }
 {
-    match there.fault {
+    match file_fault.fault {
         RecordsFault::Docket(DocketFault::Memory) => WhyFault::Docket(DocketFault::Memory),
         fault => WhyFault::Records {
-            file: there.file,
+            file: file_fault.file,
             fault,
         },
     }
@@ -150,9 +150,8 @@ fn in_its_file(there: FileFault) -> WhyFault
 
 impl Case {
     /// Reads a docket that has a sheet, with its lists, within these limits. If all residents will get answers, the
-    /// call also counts how each programme's places are taken.
-    // This function isn't inlined: its frame has the reader's buffers, which would stand on the stack of all that
-    // comes after.
+    /// call also counts how each programme's places are taken. This function isn't inlined, since the reader's
+    /// buffers in its frame would stay on the stack while the rest of the program runs.
     #[inline(never)]
     pub fn read_within<R: Read + Drop, H: RandomSource>(
         rt: &H,
@@ -194,7 +193,7 @@ impl Case {
                 Err(WhyFault::NoSheet) => Err(WhyFault::EmptySheet),
                 Err(_) => Err(WhyFault::Docket(DocketFault::Memory)),
             },
-            Err(there) => Err(in_its_file(there)),
+            Err(file_fault) => Err(in_its_file(file_fault)),
         }
     }
 
@@ -256,7 +255,7 @@ impl Case {
         requires { IsResident self.now.docket.instance resident }
         ensures { result ≡ programme_of self.now.sheet resident }
     {
-        // Only the proof needs this call: by its clause the sheet has an entry for each resident.
+        // For the proof alone: the sheet has an entry for each resident.
         let _inst = self.docket.instance();
         self.sheet().get(resident)
     }

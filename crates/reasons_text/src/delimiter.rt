@@ -52,7 +52,8 @@ impl Marks {
         }
     }
 
-    // The mark with the highest count. A comma wins against an equal count, and a tab against as many semicolons.
+    // The mark with the highest count. If the counts are equal, a comma comes before a tab, and a tab before a
+    // semicolon.
     fn chosen(&self) -> u8
         ensures { result ≡ spec.chosen self.now }
     {

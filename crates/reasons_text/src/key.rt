@@ -22,8 +22,8 @@ use std::alloc::{AllocError, Global};
 use std::hash::RandomState;
 
 /// The names that the key has for one side's members, in the order of the members' numbers. After them come the names
-/// in those rows whose member the docket lacks. A member without a row has an empty name and an empty sign. A member
-/// whose name means nobody else has an empty label.
+/// of members whom the docket lacks. A member without a row has an empty name and an empty sign. A member whose name
+/// means nobody else has an empty label.
 #[derive(Drop)]
 pub(crate) struct SideKey {
     /// The real names.
@@ -105,7 +105,7 @@ pub(crate) fn side_of_row(row: &ByteRecord) -> Option<Side>
     }
 }
 
-// Whether the fields before were all empty, and this text is empty, too.
+// Whether `blank` is true and this text is empty.
 fn both_blank(blank: bool, text: &[u8]) -> bool
     ensures { result ≡ (blank && length text.now == 0) }
 {
@@ -156,7 +156,8 @@ impl SideKey {
         })
     }
 
-    // Notes the name and the sign of a member. If the docket lacks the member, both stand after those of all members.
+    // Notes the name and the sign of a member. If the docket lacks the member, both are put after the names and signs
+    // of all members.
     fn note(&mut self, number: Option<u32>, name: String, sign: String) -> Result<(), AllocError>
         ensures { OnOk result (side_of self.new
             ≡ noted (side_of self.old) number (string_bytes name) (string_bytes sign)) }
@@ -217,7 +218,7 @@ impl SideKey {
     }
 }
 
-// Bytes in memory can always be read, so a failed reading of them means that memory ran out.
+// A key's bytes are in memory and can always be read. So if reading them fails, memory ran out.
 impl From<ReadFailed> for WhyFault {
     ghost use Rattle.docket.specs.declared.fault.DocketFault.TheVariants as docket_fault;
     ghost use Rattle.reasons_text.specs.declared.fault.WhyFault.TheVariants.{Docket};
@@ -251,8 +252,8 @@ impl Key {
     }
 
     /// The names in a key's rows: `P,programme,name` and `R,resident,name`, with an optional ID. Rows with only empty
-    /// fields are skipped. If the member of a row is not in the docket, the name of this row is still a name that
-    /// another member may share.
+    /// fields are skipped. The name of a member whom the docket lacks is kept, too, since a member of the docket may
+    /// have the same name.
     #[inline(never)]
     pub(crate) fn read(
         alloc: Global,

@@ -17,7 +17,7 @@ use std::hash::RandomState;
 // as a member.
 type Owners<'a> = HashMap<&'a str, Meant, RandomState>;
 
-// Whom a text means that means this member, and those for whom it was noted before.
+// Whom a text means after it was noted for one more member.
 fn owner_with(owner: Meant, number: usize) -> Meant
     ensures { result ≡ spec.owner_with owner number }
 {
@@ -28,7 +28,7 @@ fn owner_with(owner: Meant, number: usize) -> Meant
     }
 }
 
-// Whom this text means by the map.
+// Whom this text means: the entry of the map, or nobody.
 fn owner(owners: &Owners, text: &str) -> Meant
     ensures { result ≡ owner_in owners.now text.now }
 {
@@ -71,7 +71,8 @@ fn sign_of(key: &SideKey, place: usize) -> &str
     text_in(key.signs.as_slice(), place).unwrap_or("")
 }
 
-// Notes the name, the sign and the label that the key gives a member, if it has a row of the member.
+// Notes the name, the sign and the label that the key gives a member, if the key has a row of the
+// member.
 fn note_row<'a>(
     owners: &mut Owners<'a>,
     key: &'a SideKey,

@@ -189,8 +189,8 @@ fn nobody_asked(command: &mut Command, is_all: bool) -> LineFault
     }
 }
 
-/// The question that the command line's words ask. The words are those after the program's own name.
-// This function isn't inlined: its frame would stand on the stack of all that the program does afterwards.
+/// The question that the command line's words ask. The words are those after the program's own name. This
+/// function isn't inlined, since its frame would stay on the stack while the rest of the program runs.
 #[inline(never)]
 pub fn read_line<'a, S: AsStr>(alloc: Global, words: &'a [S]) -> Result<Question<'a>, LineFault>
     ensures question { IfOk result (Asks (map S.text words.entry.now)) }

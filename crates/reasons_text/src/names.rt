@@ -29,7 +29,7 @@ pub(crate) struct Names<'a> {
     pub(crate) key: &'a Key,
 }
 
-// Whom a text means that means this member, and the members found before.
+// Whom a text means if it means this member in addition to `meant`.
 fn also(meant: Meant, number: usize) -> Meant
     ensures { result ≡ also_of meant number }
 {

@@ -18,8 +18,8 @@ const MOST_MEANT: usize = 10;
 // The greatest length in bytes of a name for which similar names are searched.
 const MOST_ASKED: usize = 64;
 
-// How many edits may separate a similar name from the name asked for: a third of the letters asked for, but at least
-// two, and always fewer than all these letters.
+// How many edits may separate a similar name from the name asked for: a third of the letters of the name asked for,
+// but at least two, and fewer than all its letters.
 fn reach(letters: usize) -> usize {
     (letters / 3).max(2).min(letters.saturating_sub(1))
 }
@@ -38,8 +38,8 @@ fn edits(alloc: Global, asked: &str, name: &str) -> Result<Option<usize>, AllocE
     Ok(if edits <= reach { Some(edits) } else { None })
 }
 
-// How many edits separate a member's real or shown name from the name asked for: the fewer of the two, or none if
-// neither is similar.
+// How many edits separate a member's real name or shown name from the name asked for, whichever is nearer. None
+// if neither is similar.
 fn edits_of(
     alloc: Global,
     names: &Names,

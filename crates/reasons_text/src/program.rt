@@ -26,18 +26,18 @@ use std::rt::Files;
 
 // Writes why a question wasn't answered. The text names these limits. No exit status depends on whether this text could
 // be written.
-fn tell<T: Eprint>(told: &T, limits: Limits, question: &Question, fault: &WhyFault) {
+fn tell<T: Eprint>(console: &T, limits: Limits, question: &Question, fault: &WhyFault) {
     let text = fault.within(limits);
     let _ = match (fault.file(), question.sheet) {
-        (Some(Part::Sheet), Some(path)) => eprintln!(told; "residency: {path}: {text}"),
-        (Some(_), _) => eprintln!(told; "residency: standard input: {text}"),
-        (None, _) => eprintln!(told; "residency: {text}"),
+        (Some(Part::Sheet), Some(path)) => eprintln!(console; "residency: {path}: {text}"),
+        (Some(_), _) => eprintln!(console; "residency: standard input: {text}"),
+        (None, _) => eprintln!(console; "residency: {text}"),
     };
 }
 
 // Returns the exit status after a question. If the question wasn't answered, writes why.
 fn ended<T: Eprint>(
-    told: &T,
+    console: &T,
     limits: Limits,
     question: &Question,
     answer: &Result<(), WhyFault>,
@@ -45,7 +45,7 @@ fn ended<T: Eprint>(
     ensures { exit_status_in result ≡ exit_status_of answer.now }
 {
     if let Err(fault) = answer {
-        tell(told, limits, question, fault);
+        tell(console, limits, question, fault);
     }
     ExitCode::from(exit_status(answer))
 }
@@ -60,7 +60,7 @@ fn serve_beside<R, W, T, H>(
     key: Option<&[u8]>,
     reader: R,
     writer: &mut W,
-    told: &T,
+    console: &T,
 ) -> ExitCode
 where
     R: Read + Drop,
@@ -73,12 +73,12 @@ where
 {
     let sheet = match load_path(rt, path) {
         Ok(sheet) => sheet,
-        Err(unread) => return refuse_unread(told, &unread),
+        Err(unread) => return refuse_unread(console, &unread),
     };
     let mut reader = reader;
     let docket = match load_input(alloc, "standard input", &mut reader) {
         Ok(docket) => docket,
-        Err(unread) => return refuse_unread(told, &unread),
+        Err(unread) => return refuse_unread(console, &unread),
     };
     let answer = serve_why_files_within(
         rt,
@@ -91,7 +91,7 @@ where
         question.without_ranks,
         key,
     );
-    ended(told, limits, question, &answer)
+    ended(console, limits, question, &answer)
 }
 
 // Reads the files that the question names, and answers the question within these limits.
@@ -102,7 +102,7 @@ fn serve<R, W, T, H>(
     question: &Question,
     reader: R,
     writer: &mut W,
-    told: &T,
+    console: &T,
 ) -> ExitCode
 where
     R: Read + Drop,
@@ -114,11 +114,15 @@ where
 {
     let loaded = match load_path_if(rt, question.key) {
         Ok(loaded) => loaded,
-        Err(unread) => return refuse_unread(told, &unread),
+        Err(unread) => return refuse_unread(console, &unread),
     };
     let key = lent(&loaded);
     match question.sheet {
-        Some(path) => { serve_beside(rt, alloc, limits, question, path, key, reader, writer, told) }
+        Some(path) => {
+            serve_beside(
+                rt, alloc, limits, question, path, key, reader, writer, console,
+            )
+        }
         None => {
             let (asked, without_ranks) = (question.asked, question.without_ranks);
             let answer = serve_why_within(
@@ -131,7 +135,7 @@ where
                 without_ranks,
                 key,
             );
-            ended(told, limits, question, &answer)
+            ended(console, limits, question, &answer)
         }
     }
 }
@@ -148,7 +152,7 @@ pub fn tell_words<R, W, T, H>(
     words: io::Result<Vec<String>>,
     reader: R,
     writer: &mut W,
-    told: &T,
+    console: &T,
 ) -> ExitCode
 where
     R: Read + Drop,
@@ -158,7 +162,7 @@ where
     ensures { Ends words (R.remaining reader)
         (W.contents writer.old) (W.contents writer.new) (exit_status_in result) }
 {
-    tell_words_within(rt, alloc, Limits::Standard, words, reader, writer, told)
+    tell_words_within(rt, alloc, Limits::Standard, words, reader, writer, console)
 }
 
 /// Does what `tell_words` does, but within these limits.
@@ -169,7 +173,7 @@ pub fn tell_words_within<R, W, T, H>(
     words: io::Result<Vec<String>>,
     reader: R,
     writer: &mut W,
-    told: &T,
+    console: &T,
 ) -> ExitCode
 where
     R: Read + Drop,
@@ -181,10 +185,10 @@ where
 {
     let texts = match texts_of(words) {
         Ok(texts) => texts,
-        Err(fault) => return refuse(told, &fault),
+        Err(fault) => return refuse(console, &fault),
     };
     match read_line(alloc, texts.as_slice()) {
-        Ok(question) => serve(rt, alloc, limits, &question, reader, writer, told),
-        Err(fault) => refuse(told, &UsageFault::Line(fault)),
+        Ok(question) => serve(rt, alloc, limits, &question, reader, writer, console),
+        Err(fault) => refuse(console, &UsageFault::Line(fault)),
     }
 }

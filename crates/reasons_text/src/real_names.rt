@@ -29,7 +29,8 @@ pub enum NamesFault {
     /// A row of the key is bad, or memory ran out.
     #[error(transparent)]
     Key(WhyFault),
-    /// A name or an ID is no text, or has a character that isn't seen or that moves other text.
+    /// A name or an ID is no text, or has a character that is invisible or changes the direction of
+    /// text.
     #[error("record {place} of the key: its name or ID has a hidden character")]
     Hidden {
         /// The number of the record, from 1.
@@ -46,7 +47,7 @@ pub enum NamesFault {
 /// The greatest length in bytes of a name or an ID that is sealed.
 pub const LONGEST_NAME: usize = 10_000;
 
-/// For each member of a docket that the key names, the real name, and the ID if there is one.
+/// The real names that a key gives the members of a docket, each with the ID if there is one.
 #[derive(Drop)]
 pub struct RealNames {
     programmes: Vec<Option<ByteRecord>>,
@@ -65,8 +66,8 @@ impl From<AllocError> for NamesFault {
     }
 }
 
-// Whether the character isn't seen, or moves other text: a control character, an end of a line or of a paragraph, or a mark
-// of direction.
+// Whether the character is invisible or changes the direction of text: a control character, an end of a line or of a
+// paragraph, or a mark of direction.
 fn is_hidden(c: char) -> bool
     ensures { result ≡ spec.is_hidden c }
 {
@@ -138,7 +139,7 @@ fn real_fields(alloc: Global, row: &ByteRecord) -> Result<ByteRecord, AllocError
     Ok(real)
 }
 
-// No name yet for any of this many members.
+// A vector of `count` entries without a name.
 fn no_names(alloc: Global, count: u32) -> Result<Vec<Option<ByteRecord>>, AllocError>
     ensures { IfOk result (λ names. map real_in names.items ≡ replicate count None) }
 {
@@ -149,7 +150,7 @@ fn no_names(alloc: Global, count: u32) -> Result<Vec<Option<ByteRecord>>, AllocE
     Ok(names)
 }
 
-// The name of a member, if there is one.
+// The real name of the member with this number, or none.
 fn name_at(names: &[Option<ByteRecord>], member: usize) -> Option<&ByteRecord>
     ensures { option_map (λ real. fields_of real.now) result
         ≡ slice_index_or (map real_in names.now) member None }
@@ -160,7 +161,7 @@ fn name_at(names: &[Option<ByteRecord>], member: usize) -> Option<&ByteRecord>
     }
 }
 
-// Puts a name at index `place`, if there is such an index.
+// Puts a real name at index `place`, if there is such an index.
 fn put(names: &mut Vec<Option<ByteRecord>>, place: usize, real: ByteRecord)
     ensures { map real_in names.new.items
         ≡ slice_set (map real_in names.old.items) place (Some (fields_of real)) }
@@ -170,7 +171,7 @@ fn put(names: &mut Vec<Option<ByteRecord>>, place: usize, real: ByteRecord)
     }
 }
 
-// Notes a member's name, unless an earlier row named the member.
+// Gives a member a real name, unless an earlier row gave the member one.
 #[tactic(auto, using(crate::proofs::RealFacts::is_none_too))]
 fn note(names: &mut Vec<Option<ByteRecord>>, member: usize, real: ByteRecord)
     ensures { map real_in names.new.items
@@ -194,7 +195,7 @@ impl Model for RealNames {
 }
 
 impl RealNames {
-    /// No name for anyone.
+    /// Real names in which nobody has a name.
     pub fn none(alloc: Global) -> RealNames
         ensures { result ≡ nobody_named }
     {
@@ -204,7 +205,7 @@ impl RealNames {
         }
     }
 
-    // Names for the members of a docket, of whom none has one yet.
+    // The real names of a docket's members before any row of a key: nobody has a name.
     fn unnamed(alloc: Global, docket: &Docket) -> Result<RealNames, AllocError>
         ensures { IfOk result (AreRealIn docket.now []) }
     {
@@ -214,8 +215,9 @@ impl RealNames {
         })
     }
 
-    /// The names in a key's rows, as the program `residency-why` reads keys. No row may have a fault, and no name or
-    /// ID a hidden character or more than 10,000 bytes. Names are hashed with keys that the runtime draws.
+    /// The real names in a key's rows, as `residency-why` reads keys. It is a fault if a row is bad, or if a name
+    /// or an ID has a hidden character or more than 10,000 bytes. Names are hashed with keys that the runtime
+    /// draws.
     pub fn read<H: RandomSource>(
         rt: &H,
         alloc: Global,
@@ -233,7 +235,7 @@ impl RealNames {
         named(alloc, &numbers, docket, rows.as_slice())
     }
 
-    // Notes the name in one more row of a key.
+    // Adds the real name in one row of a key.
     fn add(
         &mut self,
         alloc: Global,
@@ -275,7 +277,7 @@ impl RealNames {
     }
 }
 
-// The fault of a row after rows that gave these names, or none. The names of the row are added to the key.
+// Tests a row of a key whose earlier rows gave these names, and adds the row's name to them.
 fn test_row(
     alloc: Global,
     numbers: &MemberNumbers,
@@ -303,7 +305,7 @@ fn test_row(
     Ok(())
 }
 
-// The names that all rows of a key give.
+// The real names that all rows of a key give.
 fn named(
     alloc: Global,
     numbers: &MemberNumbers,

@@ -245,7 +245,7 @@ fn ended(
     }
 }
 
-// The word `programme` or `programmes`, as this number needs.
+// The word `programme` or `programmes`, for this number.
 #[tactic(auto, unfolding(crate::specs::Lines::programmes_word))]
 fn programmes_word(listed: usize) -> &'static str
     ensures { result.now ≡ said.programmes_word listed }
@@ -257,8 +257,7 @@ fn programmes_word(listed: usize) -> &'static str
     }
 }
 
-// How many programmes a resident ranked, and of them, how many ranked the resident, and for how many the answer is a
-// withdrawal.
+// How many programmes a resident ranked, how many of these ranked the resident, and how many withdrew.
 #[tactic(auto, unfolding(crate::specs::Lines::ranked))]
 fn ranked(alloc: Global, has_withdrawn: bool, tally: Tally) -> Result<String, AllocError>
     ensures { IfOk result (λ text. string_bytes text

@@ -29,7 +29,7 @@ pub first_none : {X : Type 0} (a b : Option X) → first_of a b ≡ None → (a 
 first_none None b h = (refl, h)
 first_none (Some x) b h = cc h
 
--- if there is nothing at any place below n, there is nothing at place k below n
+-- if a function is none at all places below n, it is none at place k below n
 pub none_at : {X : Type 0} (f : ℕ → Option X) (n k : ℕ) → first_in f n ≡ None → k < n → f k ≡ None
 none_at f zero k h l = absurd (omega arith)
 none_at f (suc n) k h l =
@@ -49,7 +49,7 @@ opening_fields root count index fields text h = by_digests (digests_of fields) r
     by_digests None e k = cc k
     by_digests (Some digests) e k = digest_fields fields digests e
 
--- the fields of the openings part neither fields nor rows, if nothing is wrong with the openings
+-- if nothing is wrong with the openings, their fields have neither commas nor line feeds
 record HasOpenings (result_root : Option (List ℕ)) (r : Receipt) : Type 0 where
   count : IsField r.count
   index : IsField r.index
@@ -101,7 +101,7 @@ unfolding wrong_name
 names_clean on names h =
     each_field names (λ k l. name_field (get_or names k []) (named on (take k names) (get_or names k []) (map_none _ _ (none_at (name_at on names) (length names) k h l))))
 
--- a name that is found among names parts neither fields nor rows, if none of them does
+-- if no name of a list has a comma or a line feed, a name that is found in the list has none
 one_of : (names : Cells) (name : List ℕ) → is_some (number_in names name) ≡ true → AreFields names → IsField name
 unfolding number_in
 one_of names name h all =
@@ -203,8 +203,7 @@ answer_fields r own h k l =
 
 -- The lists and the result.
 
--- the fields of the rows of the lists part neither fields nor rows, if nothing is wrong with the
--- lists
+-- if nothing is wrong with the lists, the fields of their rows have neither commas nor line feeds
 record HasLists (r : Receipt) : Type 0 where
   name : IsField r.name
   quota : r.kind ≡ Programme → IsField r.quota
@@ -246,8 +245,7 @@ members_clean r (Some quota) h = by_test (nat_lt quota (length r.after)) (r.gone
     by_test false true k = cc k
     by_test false false k = names_clean (Some r.list) (members r) (map_none _ _ k)
 
--- the fields of a resident's result part neither fields nor rows, if nothing is wrong with the
--- result
+-- if nothing is wrong with a resident's result, its fields have neither commas nor line feeds
 record HasReasons (r : Receipt) : Type 0 where
   own : (own : List ℕ) → r.own ≡ Some own → IsField own
   answers : (k : ℕ) → k < length r.list → AreFields (answer r k)

@@ -1,4 +1,4 @@
--- Each field of a receipt in which nothing is wrong parts neither fields nor rows.
+-- No field of a receipt in which nothing is wrong has a comma or a line feed.
 use Rattle.std.proofs.Common.{◌≡◌, ℕ, zero, suc, ◌+◌, ◌<◌, ◌==◌, ◌/◌, ◌%◌, Bool, true, false, List, [], ◌∷◌, length, get_or, Option, Some, None, Result, Ok, Err, refl, sym, ap, ◌∙◌, arith, inl, inr, ◌&&◌, nat_le}
 use Rattle.std.specs.Prelude.{decimal, slice_index}
 use Rattle.std.specs.List.{list_all}
@@ -23,15 +23,14 @@ no_truth e = cc e
 other : (p : ℕ → Bool) (c b : ℕ) → p c ≡ false → p b ≡ true → (b == c) ≡ false
 other p c b fails is_so = ne_eqb b c (λ same. no_truth (sym is_so ∙ ap p same ∙ fails))
 
--- a byte parts neither fields nor rows, if it passes a test that neither a comma nor a line feed
--- passes
+-- a byte that passes a test is no comma and no line feed, if neither of these passes the test
 safe : (p : ℕ → Bool) → p 44 ≡ false → p 10 ≡ false → (b : ℕ) → p b ≡ true → PartsNothing b
 safe p comma feed b is_so = (other p 44 b comma is_so, other p 10 b feed is_so)
 
 pub passes : (p : ℕ → Bool) → p 44 ≡ false → p 10 ≡ false → (text : List ℕ) → list_all p text ≡ true → IsField text
 passes p comma feed text h = All-weaker (λ b. p b ≡ true) PartsNothing (safe p comma feed) text (AllPass-from_list_all p text h)
 
--- a text of bytes that a name can have parts neither fields nor rows
+-- a text of bytes that a name can have has neither commas nor line feeds
 pub word : (text : List ℕ) → list_all is_name_byte text ≡ true → IsField text
 word text h = passes is_name_byte refl refl text h
 
@@ -58,7 +57,7 @@ pub plain_field : (text : List ℕ) (n : ℕ) → plain_number text ≡ Some n �
 unfolding plain_number
 plain_field text n h = plain_field_of text (number_of text) n refl h
 
--- the character of a decimal digit parts neither fields nor rows
+-- the character of a decimal digit is no comma and no line feed
 glyph : (n : ℕ) → PartsNothing (digit_glyph false (n % 10))
 glyph n = let small : n % 10 < 10 = omega arith in by_digit (n % 10) small
   where
@@ -81,7 +80,7 @@ pub decimal_field : (n : ℕ) → IsField (decimal n)
 unfolding digits
 decimal_field n = decimal_onto 64 n [] (All-nil PartsNothing)
 
--- each byte of a text that can be a field parts neither fields nor rows
+-- no byte of a text that can be a field is a comma or a line feed
 index_parts : (t : List ℕ) → IsField t → (i : ℕ) → PartsNothing (slice_index t i)
 index_parts [] h i = (refl, refl)
 index_parts (b ∷ t) h zero = All-head PartsNothing b t h
@@ -120,8 +119,8 @@ digest_some None more found h = cc h
 digest_some (Some digest) None found h = cc h
 digest_some (Some digest) (Some rest) found h = (digest, rest, refl, refl)
 
--- if each character can stand between the commas of a real name's row, none of them is a mark that
--- can't stand there
+-- a mark that may not stand between the commas of a real name's row is no character of a text that
+-- may
 none : (mark : ℕ) → is_part mark ≡ false → (cs : List ℕ) → list_all is_part cs ≡ true → NonePass (λ c. c == mark) cs
 none mark fails [] h = tt
 none mark fails (c ∷ cs) h =

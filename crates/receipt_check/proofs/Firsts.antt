@@ -9,13 +9,13 @@ use Rattle.std.proofs.lemmas.Slice.Eq.{bytes_eq-Decides}
 use Rattle.docket_names.specs.Texts.{number_in}
 use Rattle.receipt_check.specs.Faults.{first_in}
 
--- if there is nothing at the places below n and at place n, there is nothing below n + 1
+-- if a function is none at all places below n and at n, it is none at all places below n + 1
 pub first_next : {X : Type 0} (f : ℕ → Option X) (n : ℕ) → first_in f n ≡ None → f n ≡ None → first_in f (n + 1) ≡ None
 first_next f n none next =
     let more : n + 1 ≡ suc n = omega arith in
     rw (more, none) next
 
--- what stands at place k below n is the first below n, if nothing stands before it
+-- if a function is none before place k, its value at k is the first value
 pub first_here : {X : Type 0} (f : ℕ → Option X) (k n : ℕ) (x : X) → k < n → first_in f k ≡ None → f k ≡ Some x → first_in f n ≡ Some x
 first_here f k zero x l none here = absurd (omega arith)
 first_here f k (suc n) x l none here = elim (cases_lt k n) [

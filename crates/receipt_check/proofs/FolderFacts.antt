@@ -1,4 +1,4 @@
--- What is looked up in the receipts of a folder.
+-- Look-ups in the receipts of a folder.
 use Rattle.std.proofs.Common.{◌≡◌, ◌<◌, ◌≤◌, ℕ, zero, suc, ◌+◌, ◌||◌, if◌then◌else◌, Bool, true, false, List, [], ◌∷◌, ◌++◌, length, map, filter, take, Option, Some, None, get_or, refl, subst, sym, ap, ap₂, ◌∙◌, arith, append-nil, append_assoc}
 use Rattle.std.specs.List.{All, flat_map, list_any, range_with_len}
 use Rattle.std.specs.Prelude.{slice_get, slice_index_or}
@@ -23,8 +23,7 @@ use Rattle.receipt_check.specs.declared.kind.Kind.TheVariants.{Programme, Reside
 use Rattle.receipt_check.specs.declared.present.Present.{Present}
 use Rattle.receipt_check.specs.declared.side.Side.{Side}
 
--- the names of a side's members after one receipt more: with its member's name at the end, if the
--- receipt is of the side
+-- one more receipt adds its member's name to the names of a side, if the member is of this side
 pub names_push : (kind : Kind) (rs : List Receipt) (r : Receipt) → names_of kind (rs ++ r ∷ []) ≡ names_of kind rs ++ (if is_of kind r then r.name ∷ [] else [])
 names_push kind rs r = ap (map (λ s. s.name)) (filter-append (is_of kind) rs (r ∷ [])) ∙ by (is_of kind r)
   where
@@ -32,8 +31,7 @@ names_push kind rs r = ap (map (λ s. s.name)) (filter-append (is_of kind) rs (r
     by true = map_push (λ s. s.name) (filter (is_of kind) rs) r
     by false = rw (append-nil (filter (is_of kind) rs)) (sym (append-nil (names_of kind rs)))
 
--- the places of a side's receipts after one receipt more: with its place at the end, if the receipt
--- is of the side
+-- one more receipt adds its place to the places of a side's receipts, if its member is of this side
 files_push_from : (kind : Kind) (k : ℕ) (rs : List Receipt) (r : Receipt)
     → files_from kind k (rs ++ r ∷ []) ≡ files_from kind k rs ++ (if is_of kind r then (k + length rs) ∷ [] else [])
 unfolding files_from
@@ -54,19 +52,19 @@ or_swap true false = refl
 or_swap false true = refl
 or_swap false false = refl
 
--- a number stands in one of the receipts with one added exactly if it stands in the added one or in
--- one of the others
+-- after one more receipt, a receipt of the member with number n is there exactly if the added
+-- receipt or an earlier one is that member's
 pub number_push : (rs : List Receipt) (r : Receipt) (n : ℕ) → has_number (rs ++ r ∷ []) n ≡ (is_number (plain_number r.index) n || has_number rs n)
 number_push rs r n =
     list_any-append (λ s. is_number (plain_number s.index) n) rs (r ∷ [])
     ∙ or_swap (has_number rs n) (is_number (plain_number r.index) n || false) ∙ ap (λ b. b || has_number rs n) (or_swap (is_number (plain_number r.index) n) false)
 
--- the receipt at place k of those that are held is the one of side k
+-- the kept receipt at place k is the receipt of `sides` at place k
 pub receipt_there : (h : Held) (k : ℕ) (d : Side) → k < length h.sides.items → receipt_at (receipts_of h) k ≡ receipt_of (get_or h.sides.items k d)
 receipt_there h k d within = get_or-map receipt_of h.sides.items k d (content_of []) within
 
--- if the receipt is of the side, its member's name and its file's number were added to the side's,
--- otherwise nothing
+-- if the receipt's member is of the side, the member's name and the file's number were added to
+-- what is kept of the side, else nothing
 pub record AddsIf (kind : Kind) (r : Receipt) (file : ℕ) (old new : Present) : Type 0 where
   pub names : new.names ≡ old.names ++ (if is_of kind r then r.name ∷ [] else [])
   pub files : new.files.items ≡ old.files.items ++ (if is_of kind r then file ∷ [] else [])
@@ -87,7 +85,7 @@ present_push kind rs r old new are adds = record {
   files_are = adds.files ∙ ap (λ (files : List ℕ). files ++ (if is_of kind r then length rs ∷ [] else [])) are.files_are ∙ sym (files_push kind rs r);
 }
 
--- after a receipt was added, what is looked up is again right for the receipts that are held
+-- after a receipt was added, what is kept for look-ups agrees with the receipts
 pub held_push : (old new : Held) (s : Side) → IsHeld old → IsSide s → new.sides.items ≡ old.sides.items ++ s ∷ []
     → ((n : ℕ) → slice_index_or new.numbers.items n false ≡ (is_number (plain_number (receipt_of s).index) n || slice_index_or old.numbers.items n false))
     → AddsIf Resident (receipt_of s) (length old.sides.items) old.residents new.residents
@@ -103,17 +101,16 @@ held_push old new s held side sides numbers residents programmes =
       programmes_are = rw more (present_push Programme (receipts_of old) (receipt_of s) old.programmes new.programmes held.programmes_are (rw (← count) at programmes));
     }
 
--- the side at place k is of the receipt at place k of those that are held
+-- the item of `sides` at place k has the kept receipt at place k
 pub receipt_is : (h : Held) (k : ℕ) (side : Side) → k < length h.sides.items → side ≡ get_or h.sides.items k side → receipt_at (receipts_of h) k ≡ receipt_of side
 receipt_is h k side within is = receipt_there h k side within ∙ ap receipt_of (sym is)
 
--- what is looked up as the number of the receipt of the member with a name is the one that this
--- receipt has
+-- the look-up of a member's name gives the number of the member's receipt
 pub file_is : (kind : Kind) (rs : List Receipt) (there : Present) (name : List ℕ) → ArePresent kind rs there
     → file_in there.files.items (number_in there.names name) ≡ file_named kind rs name
 file_is kind rs there name are = ap₂ (λ (files : List ℕ) (names : Cells). file_in files (number_in names name)) are.files_are are.names_are
 
--- past the last receipt there is an empty one, which lists nobody
+-- a receipt past the last one counts as empty and lists nobody
 pub lists_nobody : (h : Held) (k : ℕ) (name : List ℕ) → length h.sides.items ≤ k → is_declared (receipt_at (receipts_of h) k).list name ≡ false
 unfolding plain_text read split_rows number_in
 lists_nobody h k name past =
@@ -154,8 +151,6 @@ with_resident_within rs p place (Some r) within is = by (is_declared (receipt_at
     by true = All-nil (ArePlaces (length rs))
     by false = All-cons (ArePlaces (length rs)) (r, p) [] (record { first = file_below Resident rs place r is; second = within }) (All-nil (ArePlaces (length rs)))
 
--- what is made of the numbers of a range has a property throughout, if what is made of each of them
--- has it
 all_made : {A : Type 0} (P : A → Type 0) (f : ℕ → List A) (a n : ℕ) → ((k : ℕ) → k < a + n → All P (f k)) → All P (flat_map f (range_with_len a n))
 all_made P f a zero each = All-nil P
 all_made P f a (suc n) each =
@@ -177,12 +172,11 @@ pairs_within rs =
     (all_made P (programme_pairs rs) 0 n (λ p l. if_all P (is_of Programme (receipt_at rs p)) (member_pairs rs p)
     (all_made P (member_pair rs p) 0 (length (receipt_at rs p).after) (λ k m. with_resident_within rs p _ _ (omega (arith, l)) refl))))
 
--- what is looked up in the receipt at place k is right for this receipt
+-- what is kept for look-ups in the receipt at place k agrees with this receipt
 pub side_is : (h : Held) (k : ℕ) (side : Side) → IsHeld h → k < length h.sides.items → side ≡ get_or h.sides.items k side → IsSide side
 side_is h k side held within is = subst IsSide (sym is) (All-get_or IsSide h.sides.items k side within held.each)
 
--- both places of the pair at place k of those that are compared are places of receipts that are
--- held
+-- both places of the k-th compared pair are places of kept receipts
 pub pair_there : (h : Held) (pairs : Pairs) (k : ℕ) → pairs ≡ pairs_of (receipts_of h) → k < length pairs → ArePlaces (length h.sides.items) (get_or pairs k (0, 0))
 pair_there h pairs k are within =
     let count = length-map h.sides.items receipt_of in
@@ -196,8 +190,7 @@ differing_there h pairs k are within =
     let P = ArePlaces (length rs) in
     rw (← count) (All-get_or P pairs k (0, 0) within (All-same P pairs (differing_pairs rs) are (All-filter (differs rs) P (pairs_of rs) (pairs_within rs))))
 
--- if a second list gives by g what the first gives by f and then by h, the items at one place do
--- too
+-- if g of a second list is h of f of a first list, this holds for the items at each place
 pub at_both : {A B C D : Type 0} (f : A → C) (g : B → D) (h : C → D) (xs : List A) (ys : List B) (k : ℕ) (x : A) (y : B)
     → map g ys ≡ map h (map f xs) → k < length xs → x ≡ get_or xs k x → y ≡ get_or ys k y → g y ≡ h (f x)
 at_both f g h xs ys k x y made within is also =
@@ -207,8 +200,8 @@ at_both f g h xs ys k x y made within is also =
     let other = there g ys k y (g y) beside also in
     sym other ∙ ap (λ zs. get_or zs k (g y)) made ∙ there h (map f xs) k (f x) (g y) inside (sym one)
 
--- what is wrong with the next file, if nothing is wrong with its receipt by itself: that its
--- member's receipt was there before, or nothing
+-- the fault of the next file, if its receipt has no fault by itself: an earlier file has a receipt
+-- of the same member, or no fault
 pub fault_next : (lists outcome : Published) (files : List (List ℕ)) (k : ℕ) (again : Bool) → k < length files
     → compared_fault lists.members lists.root outcome.members outcome.root (get_or files k []) ≡ None → again ≡ is_again (take k (contents_of files)) (content_of (get_or files k []))
     → file_fault lists outcome files k ≡ (if again then Some (at 2 Again) else None)

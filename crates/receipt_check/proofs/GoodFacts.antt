@@ -48,21 +48,21 @@ unlike_same : (a : List ℕ) → first_unlike a a ≡ None
 unlike_same [] = refl
 unlike_same (x ∷ xs) = rw (eq-eqb x x refl, unlike_same xs) refl
 
--- the list in the contents of a receipt is the one that its rows show: a programme without the row has
--- none
+-- no list in the content of a receipt is missing from its rows: a programme without the row has no
+-- list
 list_shown : (kind : Kind) (is_row : Bool) (fields : Cells)
     → ListIsShown kind (is_programme kind && is_row) (if is_programme kind && not (is_programme kind && is_row) then [] else fields)
 list_shown Programme true fields = tt
 list_shown Programme false fields = refl
 list_shown Resident is_row fields = tt
 
--- what is read of rows tells a list exactly if the rows show one
+-- no list in the content that is read from rows is missing from the rows
 pub list_read : (rows : List Cells) → ListIsShown (read rows).kind (read rows).has_list (read rows).list
 unfolding read
 list_read rows = list_shown (kind_in rows) (bytes_eq (cell rows 4 0) (codes "P")) (drop 2 (row_at rows (list_place (has_list_in rows))))
 
--- a receipt without a fault is short, has the rows of what is read of it, and nothing is wrong with
--- what is read
+-- a receipt without a fault is not too long, is printed as the content that is read from it, and
+-- this content has no fault
 pub parts_none : (lists_root : List ℕ) (result_root : Option (List ℕ)) (bytes : List ℕ) → receipt_fault lists_root result_root bytes ≡ None
     → (nat_lt longest (length bytes) ≡ false)
     × (shape_fault lists_root result_root (read (split_rows (plain_text bytes))) (split_rows (plain_text bytes)) (plain_text bytes) ≡ None)

@@ -1,4 +1,4 @@
--- What is read back of a receipt has the same faults.
+-- The content that is read back from a receipt's rows has the same faults as the receipt's content.
 use Rattle.std.proofs.Common.{◌≡◌, ℕ, zero, suc, ◌<◌, List, Option, Some, None, length, map, refl, sym, ap, ◌∙◌, arith}
 use Rattle.std.proofs.lemmas.List.{length-map}
 use Rattle.docket_names.specs.Texts.{number_in}
@@ -23,8 +23,8 @@ result_text_kept : (root : List ℕ) (kind : Kind) (r : Receipt) → r.kind ≡ 
 unfolding result_text
 result_text_kept root kind r e = ap lines (result_rows_kept root kind r ∙ ap (λ k. result_rows_of k r) (sym e))
 
--- what is wrong with the openings is the same for what is read back of a receipt, whichever count
--- and place they are checked with
+-- the openings in the content that is read back have the same fault, whichever count and place they
+-- are checked with
 openings_at_kept : (lists_root : List ℕ) (result_root : Option (List ℕ)) (kind : Kind) (r : Receipt) (count index : Option ℕ) → r.kind ≡ kind
     → openings_at lists_root result_root (kept_of kind result_root r) count index ≡ openings_at lists_root result_root r count index
 openings_at_kept lists_root result_root kind r None index e = refl

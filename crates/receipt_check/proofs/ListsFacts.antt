@@ -1,4 +1,4 @@
--- Two receipts with one text of the lists tell the same member, with the same list.
+-- Two receipts with the same text before the match are of the same member, with the same list.
 use Rattle.std.proofs.Common.{◌≡◌, ℕ, true, false, List, [], ◌∷◌, ◌++◌, None, refl, sym, ap, ◌∙◌}
 use Rattle.std.specs.Prelude.{bytes_eq, codes}
 use Rattle.receipt_check.specs.Rows.{Cells, cell, split_rows}
@@ -11,7 +11,7 @@ use Rattle.receipt_check.proofs.RowFacts.{rows_read}
 use Rattle.receipt_check.proofs.ShownFacts.{kept_of, read_is, receipt_rows}
 use Rattle.receipt_check.proofs.CleanFacts.{lists_are_rows}
 
--- both receipts tell the same side, name, quota, list and withdrawal of a member
+-- both receipts have the same side, name, quota, list and withdrawal of a member
 pub record HasListsOf (r c : Receipt) : Type 0 where
   pub kind : r.kind ≡ c.kind
   pub name : r.name ≡ c.name
@@ -19,7 +19,7 @@ pub record HasListsOf (r c : Receipt) : Type 0 where
   pub list : r.list ≡ c.list
   pub gone : r.gone ≡ c.gone
 
--- if two receipts have the same rows of the lists, their members are of one side and have one name
+-- if two receipts have the same rows of the lists, their members have the same side and name
 first_cells : (kind kind' : Kind) (r c : Receipt) → lists_rows_of kind r ≡ lists_rows_of kind' c → (kind ≡ kind') × (r.name ≡ c.name)
 first_cells Programme Programme r c e = (refl, ap (λ (rows : List Cells). cell rows 0 1) e)
 first_cells Programme Resident r c e =
@@ -34,7 +34,7 @@ first_cells Resident Resident r c e = (refl, ap (λ (rows : List Cells). cell ro
 abbrev moved : Receipt → Receipt → Receipt
 moved r c = record c { count = r.count; index = r.index; opening = r.opening }
 
--- the second receipt with the openings of the first has the rows of the lists that the second has
+-- the second receipt with the openings of the first has the same rows of the lists as the second
 moved_rows : (kind : Kind) (r c : Receipt) → lists_rows_of kind (moved r c) ≡ lists_rows_of kind c
 moved_rows Programme r c = refl
 moved_rows Resident r c = refl
@@ -45,8 +45,8 @@ abbrev rows_with : Receipt → Kind → List ℕ → List Cells → List Cells
 rows_with r kind name rows =
     ((codes "receipt" ∷ codes "2" ∷ letter_of kind ∷ name ∷ []) ∷ part_rows (codes "lists") [] r.count r.index r.opening) ++ (rows ++ [])
 
--- two receipts without a fault in their lists that have one text of the lists tell the same before
--- the match
+-- if two receipts have no fault in their lists and the same text before the match, they agree about
+-- all that was sealed before the match
 pub same_lists : (r c : Receipt) → ListIsShown r.kind r.has_list r.list → ListIsShown c.kind c.has_list c.list → lists_fault r ≡ None
     → lists_fault c ≡ None → lists_text r ≡ lists_text c → HasListsOf r c
 unfolding lists_text

@@ -1,4 +1,4 @@
--- What stands between the commas of a real name's row parts neither fields nor rows.
+-- The pieces between the commas of a real name's row have neither commas nor line feeds.
 use Rattle.std.proofs.Common.{◌≡◌, ℕ, false, List, inl, inr}
 use Rattle.std.specs.Str.{IsUtf8, is_utf8}
 use Rattle.std.proofs.lemmas.Bool.{cases_Bool}

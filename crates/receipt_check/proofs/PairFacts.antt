@@ -42,14 +42,12 @@ member_at [] k = refl
 member_at (row ∷ rows) zero = refl
 member_at (row ∷ rows) (suc k) = member_at rows k
 
--- the last place of the first k + 1 names is the later of the last place of the first k and that of
--- name k
+-- the last place of the first k + 1 names is the later of two places: the last place of the first k
+-- names, and name k's place
 pub last_next : (list names : Cells) (k : ℕ) → last_within list names (k + 1) ≡ later (last_within list names k) (number_in list (text_at names k))
 unfolding last_within
 last_next list names k = let more : k + 1 ≡ suc k = omega arith in rw more refl
 
--- a list of what is made of the numbers below n, with what is made of n added, is what is made of
--- the numbers below n + 1
 pub pairs_next : {A : Type 0} (f : ℕ → List A) (old xs ys : List A) (n : ℕ) → xs ≡ old ++ flat_map f (range_with_len 0 n) → ys ≡ xs ++ f n
     → ys ≡ old ++ flat_map f (range_with_len 0 (n + 1))
 pairs_next f old xs ys n before added =

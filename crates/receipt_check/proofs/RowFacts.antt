@@ -1,4 +1,4 @@
--- Rows that are printed are read back as they were.
+-- Printed rows are read back as the same rows.
 use Rattle.std.proofs.Common.{◌≡◌, ℕ, ◌-◌, ◌==◌, false, List, [], ◌∷◌, ◌++◌, length, map, take, refl, sym, ap, ◌∙◌, arith, append_assoc, append-nil}
 use Rattle.std.specs.Prelude.{All, ⊤}
 use Rattle.std.proofs.lemmas.List.{length_push}
@@ -90,7 +90,7 @@ rows_read rows h =
     ap (λ (t : List (List ℕ)). map (pieces 44) (but_last t)) (lines_parted rows h)
     ∙ ap (map (pieces 44)) (but_last_push (map body rows) []) ∙ bodies_read rows h
 
--- rows are printed as the first of them and then the others
+-- two joined lists of rows are printed as the first list and then the second
 pub lines_append : (a b : List Cells) → lines (a ++ b) ≡ lines a ++ lines b
 lines_append [] b = refl
 lines_append (row ∷ rows) b = ap (λ (t : List ℕ). line row ++ t) (lines_append rows b) ∙ sym (append_assoc (line row) (lines rows) (lines b))

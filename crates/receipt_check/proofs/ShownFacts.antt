@@ -1,4 +1,4 @@
--- What a receipt tells is read back from its rows.
+-- The content of a receipt is read back from its printed rows.
 use Rattle.std.proofs.Common.{◌≡◌, ℕ, zero, suc, ◌+◌, ◌<◌, Bool, true, false, List, [], ◌∷◌, ◌++◌, Option, Some, None, drop, length, map, refl, sym, ap, ◌∙◌, arith, zero-add}
 use Rattle.std.specs.Prelude.{codes}
 use Rattle.std.specs.List.{range_with_len}
@@ -33,8 +33,8 @@ printed_rows lists_root result_root r =
     ∙ ap (λ (t : List ℕ). lines (first_row r ∷ part_rows (codes "lists") lists_root r.count r.index r.opening) ++ t) (sym (lines_append (lists_rows r) (result_part_rows result_root r)))
     ∙ sym (lines_append (first_row r ∷ part_rows (codes "lists") lists_root r.count r.index r.opening) (lists_rows r ++ result_part_rows result_root r))
 
--- what is read back as the quota: a programme's quota, or the first name on a resident's list, which
--- stands there in the row
+-- the field that is read back as the quota: a programme's quota; for a resident the first name on
+-- the list, which stands in this field
 abbrev pub kept_quota : Kind → Receipt → List ℕ
 kept_quota Programme r = r.quota
 kept_quota Resident r = text_at r.list 0
@@ -109,8 +109,7 @@ read_fields lists_root (Some root) Resident name count index quota opening list 
 pub read_is : (lists_root : List ℕ) (result_root : Option (List ℕ)) (r : Receipt) → ListIsShown r.kind r.has_list r.list → read (receipt_rows lists_root result_root r) ≡ kept_of r.kind result_root r
 read_is lists_root result_root r h = read_fields lists_root result_root r.kind r.name r.count r.index r.quota r.opening r.list r.second r.after r.own r.has_list r.gone r.named h r refl
 
--- lists that are made of the numbers of a range by two functions are equal, if both functions make the
--- same of each number
+-- two functions with the same values at the numbers of a range make the same list of this range
 range_same : {A : Type 0} (f g : ℕ → A) (a n : ℕ) → ((k : ℕ) → k < a + n → f k ≡ g k) → map f (range_with_len a n) ≡ map g (range_with_len a n)
 range_same f g a zero h = refl
 range_same f g a (suc n) h =
@@ -127,7 +126,7 @@ answer_kept r k l = ap (drop 3) (get_or-map-range_with_len (reason_row r) 0 (len
 reason_kept : (r r' : Receipt) → r'.name ≡ r.name → r'.list ≡ r.list → (k : ℕ) → answer r' k ≡ answer r k → reason_row r' k ≡ reason_row r k
 reason_kept r r' n l k a = rw (n, l, a) refl
 
--- what is read back of a receipt has the same rows of the result
+-- the content that is read back has the same rows of the result
 pub result_rows_kept : (root : List ℕ) (kind : Kind) (r : Receipt) → result_rows_of kind (kept_of kind (Some root) r) ≡ result_rows_of kind r
 result_rows_kept root Programme r =
     let many : length (map (member_row r.name) (members r)) ≡ length r.after = length-map (members r) (member_row r.name) ∙ length-map r.after (λ row. text_at row 1) in
@@ -140,7 +139,7 @@ pub lists_rows_kept : (result_root : Option (List ℕ)) (kind : Kind) (r : Recei
 lists_rows_kept result_root Programme r e = rw e refl
 lists_rows_kept result_root Resident r e = rw e refl
 
--- what is read back of a receipt has the same rows
+-- the content that is read back has the same rows
 pub rows_kept : (lists_root : List ℕ) (result_root : Option (List ℕ)) (kind : Kind) (r : Receipt) → r.kind ≡ kind
     → receipt_rows lists_root result_root (kept_of kind result_root r) ≡ receipt_rows lists_root result_root r
 rows_kept lists_root None Programme r e = rw e refl

@@ -5,8 +5,8 @@ use Rattle.std.proofs.lemmas.Bool.{ne_eqb, eq-eqb}
 use Rattle.receipt_check.specs.Rows.{kept, without_returns}
 use Rattle.receipt_check.specs.Shape.{feeds, first_unlike}
 
--- if a step keeps byte i exactly if it is to be kept, what was kept and what the rest gives is
--- still all that is to be kept
+-- after one more byte, the bytes kept, followed by the bytes to keep of the rest, are still all
+-- bytes to keep
 pub kept_next : (bytes old new : List ℕ) (i : ℕ) → i < length bytes → new ≡ old ++ kept (get_or bytes i 0) (drop (i + 1) bytes)
     → old ++ without_returns (drop i bytes) ≡ without_returns bytes → new ++ without_returns (drop (i + 1) bytes) ≡ without_returns bytes
 kept_next bytes old new i within grown all =
@@ -21,8 +21,8 @@ added : (o : Option ℕ) (n b : ℕ) → option_map (λ r. r + n) (option_map (�
 added None n b = refl
 added (Some r) n b = let e : r + b + n ≡ r + (n + b) = omega arith in ap Some e
 
--- if both texts have the same byte at place i, the first row that differs is found after it, with
--- one row more after a line feed
+-- if both texts have the same byte at place i, the first row that differs is found in the bytes
+-- after it; a line feed begins a new row
 pub unlike_next : (xs ys : List ℕ) (i row : ℕ) → i < length xs → i < length ys → get_or xs i 0 ≡ get_or ys i 0
     → option_map (λ r. r + row) (first_unlike (drop i xs) (drop i ys)) ≡ first_unlike xs ys
     → option_map (λ r. r + (row + feeds (get_or xs i 0))) (first_unlike (drop (i + 1) xs) (drop (i + 1) ys)) ≡ first_unlike xs ys
@@ -32,7 +32,7 @@ unlike_next xs ys i row l m same all =
     rw (drop_more xs i 0 l, drop_more ys i 0 m, test) refl in
     sym (added (first_unlike (drop (i + 1) xs) (drop (i + 1) ys)) row (feeds (get_or xs i 0))) ∙ ap (option_map (λ r. r + row)) (sym step) ∙ all
 
--- if the texts have different bytes at place i, the row that was counted is the first that differs
+-- if the texts have different bytes at place i, the current row is the first row that differs
 pub unlike_here : (xs ys : List ℕ) (i row : ℕ) → i < length xs → i < length ys → get_or xs i 0 ≢ get_or ys i 0
     → option_map (λ r. r + row) (first_unlike (drop i xs) (drop i ys)) ≡ first_unlike xs ys → Some row ≡ first_unlike xs ys
 unlike_here xs ys i row l m other all =

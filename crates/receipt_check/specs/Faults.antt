@@ -25,14 +25,14 @@ abbrev pub first_of : {X : Type 0} → Option X → Option X → Option X
 first_of (Some fault) other = Some fault
 first_of None other = other
 
--- of the faults at the numbers below this one, the first that isn't none
+-- the first value of f that isn't none, at the numbers below this one
 abbrev pub first_in : {X : Type 0} → (ℕ → Option X) → ℕ → Option X
 first_in fault zero = None
 first_in fault (suc n) = first_of (first_in fault n) (fault n)
 
 -- Numbers and digests.
 
--- the number, if the digits are exactly how it is written in decimal, else none
+-- the number if the digits are its decimal digits, without a needless zero in front; else none
 abbrev pub if_written : List ℕ → Option ℕ → Option ℕ
 if_written digits None = None
 if_written digits (Some n) = if bytes_eq digits (decimal n) then Some n else None
@@ -57,7 +57,7 @@ abbrev pub cons_if : Option (List ℕ) → Option (List (List ℕ)) → Option (
 cons_if None digests = None
 cons_if (Some digest) digests = option_map (λ rest. digest ∷ rest) digests
 
--- the digests that these fields write; none if one of the fields writes none
+-- the digests that these fields write; none if one of the fields is no digest
 abbrev pub digests_of : Cells → Option (List (List ℕ))
 digests_of [] = Some []
 digests_of (field ∷ rest) = cons_if (digest_of field) (digests_of rest)
@@ -77,7 +77,7 @@ digests_wrong root count index text (Some []) = Some wrong.OpeningRow
 digests_wrong root count index text (Some (salt ∷ path)) =
     if is_root root (opened index count (leaf_hash (record { salt = salt; text = text })) path) then None else Some wrong.Opening
 
--- what is wrong with these fields, a salt and a path, as the opening of this root by a leaf with this text
+-- why the leaf with this text does not open this root with the salt and the path in these fields
 unfoldable pub opening_wrong : List ℕ → ℕ → ℕ → Cells → List ℕ → Option Wrong
 opening_wrong root count index fields text = digests_wrong root count index text (digests_of fields)
 
@@ -103,12 +103,12 @@ openings_fault lists_root result_root r = openings_at lists_root result_root r (
 
 -- Names.
 
--- whether the name stands on the list, if there is one that it has to stand on
+-- whether the name stands on the list; true without a list
 abbrev pub is_on : Option Cells → List ℕ → Bool
 is_on None name = true
 is_on (Some list) name = is_declared list name
 
--- what is wrong with a name after those before: it is no name, it isn't on the list, or it stands among those before
+-- what is wrong with a name: it is no name, it isn't on the list, or it is among the names `before` it
 abbrev pub name_wrong : Option Cells → Cells → List ℕ → Option Wrong
 name_wrong on before name =
     if not (is_name name) then Some wrong.Name
@@ -116,7 +116,7 @@ name_wrong on before name =
     else if is_declared before name then Some wrong.Twice
     else None
 
--- what is wrong, with the place where it is wrong; none if nothing is
+-- what is wrong at this place, with the place; none if nothing is wrong
 abbrev pub found_at : ℕ → Option Wrong → Option (ℕ × Wrong)
 found_at k w = option_map (λ w. (k, w)) w
 
@@ -133,7 +133,7 @@ placed place found = option_map (λ f. at (place f.0) f.1) found
 
 -- A resident's reasons.
 
--- whether the answer has this word, and no number in its other three fields
+-- whether the answer has this word, and its other three fields are empty
 abbrev pub is_bare : List ℕ → Cells → Bool
 is_bare word fields =
     (length fields == 4) && bytes_eq (text_at fields 0) word && (length (text_at fields 1) == 0)
@@ -168,14 +168,15 @@ abbrev pub stand_of : Option ℕ → ℕ → Stand
 stand_of None k = Before
 stand_of (Some own) k = if nat_lt k own then Before else if k == own then At else After
 
--- whether the answer can stand there; all answers to a withdrawn resident are `withdrawn`
+-- whether a choice that stands so can have this answer; all answers to a withdrawn resident are
+-- `withdrawn`
 abbrev pub can_stand : Bool → Stand → Cells → Bool
 can_stand true stand fields = is_bare (codes "withdrawn") fields
 can_stand false Before fields = is_passed fields
 can_stand false At fields = is_bare (codes "matched") fields
 can_stand false After fields = is_later fields
 
--- what is wrong with an answer that can't stand where it stands
+-- what is wrong with an answer that its choice can't have
 abbrev pub answer_wrong : Cells → Wrong
 answer_wrong fields = if bytes_eq (text_at fields 0) (codes "full") then wrong.Full else wrong.Reason
 
@@ -184,8 +185,8 @@ reason_wrong gone stand fields = if can_stand gone stand fields then None else S
 
 -- The whole.
 
--- the place of row k, from 0, after the root and the opening of a receipt's result; row 0 is that of the placement or
--- of the filled places
+-- the place in the receipt of row k of the result's text, counted from 0; row 0 says where the resident is placed, or
+-- how many places are filled
 abbrev pub result_place : Receipt → ℕ → ℕ
 result_place r k = end_of r + 2 + k
 

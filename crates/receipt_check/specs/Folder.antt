@@ -1,4 +1,4 @@
--- What is said of the receipts of a folder.
+-- What the program writes about the receipts of a folder.
 use Rattle.std.specs.Prelude.{ℕ, ◌+◌, ◌==◌, ◌&&◌, ◌||◌, not, Bool, if◌then◌else◌, Option, Some, None, is_some, List, [], ◌∷◌, ◌++◌, codes, decimal, filter, length, map, slice_get, slice_index_or, take}
 use Rattle.std.specs.List.{flat_map, list_all, list_any, range_with_len}
 use Rattle.docket_names.specs.Texts.{is_declared, number_in}
@@ -40,7 +40,7 @@ has_number_if rs (Some n) = has_number rs n
 abbrev pub names_of : Kind → List Receipt → Cells
 names_of kind rs = map (λ r. r.name) (filter (is_of kind) rs)
 
--- which of these receipts are of this side, by their numbers, where the first receipt has number k
+-- the numbers of the receipts of this side; the first of all these receipts has number k
 unfoldable pub files_from : Kind → ℕ → List Receipt → List ℕ
 files_from kind k [] = []
 files_from kind k (r ∷ rs) = (if is_of kind r then k ∷ [] else []) ++ files_from kind (k + 1) rs
@@ -49,24 +49,25 @@ files_from kind k (r ∷ rs) = (if is_of kind r then k ∷ [] else []) ++ files_
 abbrev pub has_name : List Receipt → Kind → List ℕ → Bool
 has_name rs kind name = is_declared (names_of kind rs) name
 
--- whether one of these receipts has the number of this one's member, or is of its side and has its name
+-- whether one of these receipts has the same member's number, or the same side and name, as this
+-- receipt
 abbrev pub is_again : List Receipt → Receipt → Bool
 is_again rs r = has_number_if rs (plain_number r.index) || has_name rs r.kind r.name
 
--- what is wrong with the receipt of the file with this number: its own fault, or an earlier file has its
--- member
+-- the fault of the receipt in the file with this number: its own fault, or that an earlier file has a
+-- receipt of the same member
 abbrev pub file_fault : Published → Published → List (List ℕ) → ℕ → Option Fault
 file_fault lists outcome files k =
     first_of (compared_fault lists.members lists.root outcome.members outcome.root (slice_index_or files k []))
     (if is_again (take k (contents_of files)) (receipt_at (contents_of files) k) then Some (at 2 wrong.Again) else None)
 
--- the first file that is at fault, and what is wrong with its receipt
+-- the first file at fault, and the fault of its receipt
 unfoldable pub folder_fault : Published → Published → List (List ℕ) → Option (ℕ × Fault)
 folder_fault lists outcome files = first_in (λ k. in_file k (file_fault lists outcome files k)) (length files)
 
 -- Which pairs are compared.
 
--- pairs of receipts: in each the number of a resident's receipt, and that of a programme's
+-- pairs of receipts: the number of a resident's receipt, and the number of a programme's receipt
 abbrev pub Pairs : Type 0
 Pairs = List (ℕ × ℕ)
 
@@ -82,12 +83,12 @@ abbrev pub with_programme : ℕ → Option ℕ → Pairs
 with_programme r None = []
 with_programme r (Some p) = (r, p) ∷ []
 
--- the pair of resident r's receipt with that of r's choice k, or no pair if the programme's receipt isn't
--- there
+-- the pair of resident r's receipt and the receipt of r's choice k; no pair if the folder lacks the
+-- programme's receipt
 abbrev pub choice_pair : List Receipt → ℕ → ℕ → Pairs
 choice_pair rs r k = with_programme r (file_named Programme rs (text_at (receipt_at rs r).list k))
 
--- the pairs of a resident's receipt with those of the programmes on its list
+-- the pairs of a resident's receipt with the receipts of the programmes on the resident's list
 abbrev pub choice_pairs : List Receipt → ℕ → Pairs
 choice_pairs rs r = flat_map (choice_pair rs r) (range_with_len 0 (length (receipt_at rs r).list))
 
@@ -95,12 +96,12 @@ abbrev pub with_resident : List Receipt → ℕ → Option ℕ → Pairs
 with_resident rs p None = []
 with_resident rs p (Some r) = if is_declared (receipt_at rs r).list (receipt_at rs p).name then [] else (r, p) ∷ []
 
--- the pair of programme p's receipt with that of its k-th resident, or no pair if this receipt isn't there
--- or lists the programme
+-- the pair of programme p's receipt and the receipt of its k-th resident; no pair if the folder lacks that
+-- receipt, or if it lists the programme
 abbrev pub member_pair : List Receipt → ℕ → ℕ → Pairs
 member_pair rs p k = with_resident rs p (file_named Resident rs (text_at (members (receipt_at rs p)) k))
 
--- the pairs of a programme's receipt with those of its residents who don't list it
+-- the pairs of a programme's receipt with the receipts of its residents who don't list it
 abbrev pub member_pairs : List Receipt → ℕ → Pairs
 member_pairs rs p = flat_map (member_pair rs p) (range_with_len 0 (length (receipt_at rs p).after))
 
@@ -129,11 +130,11 @@ differing_pairs rs = filter (differs rs) (pairs_of rs)
 abbrev pub words_at : List Receipt → ℕ × ℕ → List ℕ
 words_at rs pair = pair_words (receipt_at rs pair.0) (receipt_at rs pair.1)
 
--- whether the receipts of all of the `count` members are there
+-- whether the folder has a receipt of each of the `count` members
 abbrev pub is_whole : ℕ → List Receipt → Bool
 is_whole count rs = list_all (has_number rs) (range_with_len 0 count)
 
--- whether the receipts of all members are there, and no pair differs
+-- whether the folder has a receipt of each member, and no pair differs
 abbrev pub is_stable : ℕ → List Receipt → Bool
 is_stable count rs = is_whole count rs && (length (differing_pairs rs) == 0)
 
@@ -141,7 +142,8 @@ is_stable count rs = is_whole count rs && (length (differing_pairs rs) == 0)
 abbrev pub two_numbers : ℕ → List ℕ → ℕ → List ℕ → List ℕ
 two_numbers n words m end = decimal n ++ (words ++ (decimal m ++ end))
 
--- how many members are there of how many, how many pairs were compared, and how many of them differ
+-- how many of all members have a receipt in the folder, how many pairs were compared, and how many
+-- differ
 abbrev pub counts_text : ℕ → ℕ → ℕ → ℕ → List ℕ
 counts_text there count compared differing =
     two_numbers there (codes " of ") count (codes " members are there, and ")
@@ -150,7 +152,7 @@ counts_text there count compared differing =
 abbrev pub stable_text : Bool → List ℕ
 stable_text stable = if stable then codes "The placement is stable.\n" else []
 
--- what is written of these receipts
+-- what the program writes about these receipts
 abbrev pub folder_text : ℕ → List Receipt → List ℕ
 folder_text count rs =
     flat_map (words_at rs) (differing_pairs rs)

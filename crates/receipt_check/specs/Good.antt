@@ -1,4 +1,4 @@
--- What a good receipt is, and what is proved of the check.
+-- What a good receipt is, and the law of the check.
 use Rattle.std.specs.Prelude.{◌≡◌, ◌≤◌, ◌↔◌, ⊤, Bool, true, false, Option, Some, None, List, [], ℕ, length}
 use Rattle.receipt_check.specs.Rows.{Cells, plain_text}
 use Rattle.receipt_check.specs.Receipt.{Receipt, receipt_text}
@@ -16,8 +16,8 @@ ListIsShown Programme false list = list ≡ []
 ListIsShown Resident true list = ⊥
 ListIsShown Resident false list = ⊤
 
--- The bytes are a good receipt under the published roots: they are not too many, they are the text of a receipt with some
--- content, which stands in the text, and nothing is wrong with this content.
+-- The bytes are a good receipt under the published roots: they are not too many, they are the text of a receipt with
+-- some content, no list of this content is missing from the text, and nothing is wrong with the content.
 pub record IsGoodReceipt (lists_root : List ℕ) (result_root : Option (List ℕ)) (bytes : List ℕ) : Type 0 where
   pub content : Receipt
   pub is_short : length bytes ≤ longest
@@ -25,7 +25,7 @@ pub record IsGoodReceipt (lists_root : List ℕ) (result_root : Option (List ℕ
   pub list_is : ListIsShown content.kind content.has_list content.list
   pub nothing_wrong : value_fault lists_root result_root content ≡ None
 
--- the fault is the first thing that is wrong with the receipt; nothing is said if memory or the writer failed
+-- the fault is the first fault of the receipt, unless memory or the writer failed
 abbrev pub IsReceiptFault : List ℕ → Option (List ℕ) → List ℕ → ReceiptFault → Type 0
 IsReceiptFault lists_root result_root bytes (faults.Wrong fault) = receipt_fault lists_root result_root bytes ≡ Some fault
 IsReceiptFault lists_root result_root bytes faults.Memory = ⊤

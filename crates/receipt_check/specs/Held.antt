@@ -25,13 +25,14 @@ rows_of texts = map (λ (rows : Vec (Vec (Bor (List ℕ)))). rows_in rows.items)
 abbrev pub receipts_of : Held → List Receipt
 receipts_of h = map receipt_of h.sides.items
 
--- `there` has the names of a side's members, and the numbers of their receipts
+-- what is kept of one side: the names of the members who have a receipt, and the numbers of their
+-- receipts
 pub record ArePresent (kind : Kind) (rs : List Receipt) (there : Present) : Type 0 where
   pub names_are : there.names ≡ names_of kind rs
   pub files_are : there.files.items ≡ files_from kind 0 rs
 
--- what is kept to look things up agrees with the receipts: each receipt's own, the members'
--- numbers, and both sides' names
+-- what is kept for looking things up agrees with the receipts: the parts of each receipt, the
+-- members' numbers, and the names of both sides
 pub record IsHeld (h : Held) : Type 0 where
   pub each : All IsSide h.sides.items
   pub numbers_are : (n : ℕ) → slice_index_or h.numbers.items n false ≡ has_number (receipts_of h) n

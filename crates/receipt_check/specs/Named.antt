@@ -28,8 +28,9 @@ is_printed named fields = bytes_eq (csv.line fields) (name_text named)
 abbrev pub has_parts : Fields → Bool
 has_parts fields = not (length (field fields 1) == 0) && ((length fields == 2) || (length fields == 3) && not (length (field fields 2) == 0))
 
--- Whether a real name or an ID can have the character. It is no control character (below 32, or from 127 to 159), it ends
--- no line (8232 and 8233), and it turns no writing (1564, 8206, 8207, 8234 to 8238, and 8294 to 8297).
+-- Whether a real name or an ID can have the character. It is no control character (below 32, or from 127 to 159), it
+-- ends no line (8232 and 8233), and it does not change the direction of text (1564, 8206, 8207, 8234 to 8238, and 8294
+-- to 8297).
 abbrev pub is_shown : ℕ → Bool
 is_shown c =
     nat_le 32 c && not (nat_le 127 c && nat_le c 159) && not (c == 1564) && not (nat_le 8206 c && nat_le c 8207)
@@ -43,6 +44,7 @@ is_part c = is_shown c && not (c == 44)
 abbrev pub is_piece : List ℕ → Bool
 is_piece piece = is_utf8 piece && list_all is_part (chars piece)
 
--- whether the row is a right one: of such texts, printed as csv prints it, with a real name and perhaps an ID
+-- whether the row is right: it has only such texts, is printed as csv prints it, and has a real name and
+-- perhaps an ID
 unfoldable pub is_real : Cells → Bool
 is_real named = list_all is_piece named && is_printed named (real_fields named) && has_parts (real_fields named)

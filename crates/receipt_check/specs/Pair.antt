@@ -1,4 +1,4 @@
--- When a resident's and a programme's receipts agree, and what is said of the two.
+-- When a resident's and a programme's receipts agree, and what the program writes about the two.
 use Rattle.std.specs.Prelude.{ℕ, zero, suc, ◌+◌, ◌==◌, ◌&&◌, ◌||◌, nat_lt, not, Bool, true, false, if◌then◌else◌, Option, Some, None, is_some, option_map, List, [], ◌∷◌, ◌++◌, bytes_eq, codes, decimal, length}
 use Rattle.std.specs.List.{flat_map}
 use Rattle.docket_names.specs.Texts.{is_declared, number_in}
@@ -20,7 +20,8 @@ use Rattle.receipt_check.specs.declared.wrong.Wrong.TheVariants as wrong
 abbrev pub content_of : List ℕ → Receipt
 content_of bytes = read (split_rows (plain_text bytes))
 
--- the text of a file as it was printed; nothing of a file that is longer than any receipt
+-- the text of a receipt's file as it was printed; an empty text if the file is longer than any
+-- receipt
 abbrev pub short_text : List ℕ → List ℕ
 short_text bytes = if nat_lt longest (length bytes) then [] else plain_text bytes
 
@@ -29,27 +30,28 @@ abbrev pub is_number : Option ℕ → ℕ → Bool
 is_number None n = false
 is_number (Some m) n = m == n
 
--- what is wrong with a receipt whose member has to be of this side
+-- the fault of a receipt whose member has to be of the first side and is of the second
 abbrev pub kind_fault : Kind → Kind → Option Fault
 kind_fault Programme Programme = None
 kind_fault Programme Resident = Some (at 0 wrong.NotProgramme)
 kind_fault Resident Resident = None
 kind_fault Resident Programme = Some (at 0 wrong.NotResident)
 
--- what is wrong with a receipt whose number of members isn't the one published with the root of the lists, or of the result
+-- the fault of a receipt whose number of members isn't the number published with the root of the lists, or of the
+-- result
 abbrev pub members_fault : ℕ → ℕ → Receipt → Option Fault
 members_fault lists_count result_count r =
     if not (is_number (plain_number r.count) lists_count) then Some (at 1 wrong.Members)
     else if not (is_number (plain_number r.count) result_count) then Some (at (end_of r) wrong.Members)
     else None
 
--- what is wrong with a receipt that is compared with others: it isn't good under the published roots, or has another number
--- of members than was published with them
+-- the fault of a receipt that is to be compared: it isn't good under the published roots, or its number of members
+-- isn't the published number
 unfoldable pub compared_fault : ℕ → List ℕ → ℕ → List ℕ → List ℕ → Option Fault
 compared_fault lists_count lists_root result_count result_root bytes =
     first_of (receipt_fault lists_root (Some result_root) bytes) (members_fault lists_count result_count (content_of bytes))
 
--- what is wrong with a receipt that is compared, and whose member has to be of this side
+-- the fault of a receipt that is to be compared and whose member has to be of this side
 abbrev pub side_fault : Kind → ℕ → List ℕ → ℕ → List ℕ → List ℕ → Option Fault
 side_fault kind lists_count lists_root result_count result_root bytes =
     first_of (compared_fault lists_count lists_root result_count result_root bytes) (kind_fault kind (content_of bytes).kind)
@@ -66,12 +68,12 @@ later None q = q
 later (Some p) None = Some p
 later (Some p) (Some q) = if nat_lt p q then Some q else Some p
 
--- of the first n names, the last place that one of them has on the list
+-- the last place on the list that one of the first n names has
 unfoldable pub last_within : Cells → Cells → ℕ → Option ℕ
 last_within list names zero = None
 last_within list names (suc n) = later (last_within list names n) (number_in list (text_at names n))
 
--- of a programme's residents, the last place that one of them has on its list
+-- the last place on a programme's list that one of its residents has
 abbrev pub last_place : Receipt → Option ℕ
 last_place p = last_within p.list (members p) (length (members p))
 
@@ -81,7 +83,7 @@ last_place p = last_within p.list (members p) (length (members p))
 abbrev pub says : Cells → List ℕ → Bool
 says fields word = bytes_eq (text_at fields 0) word
 
--- whether one of the two is true without the other
+-- whether exactly one of the two is true
 abbrev pub is_other : Bool → Bool → Bool
 is_other true b = not b
 is_other false b = b
@@ -91,7 +93,7 @@ abbrev pub is_place : List ℕ → Option ℕ → Bool
 is_place digits None = length digits == 0
 is_place digits (Some k) = is_number (plain_number digits) (k + 1)
 
--- whether one of the two is withdrawn
+-- whether the resident or the programme is withdrawn
 abbrev pub is_gone : Receipt → Receipt → Bool
 is_gone r p = r.gone || p.gone
 
@@ -119,7 +121,8 @@ answer_difference fields rank r p =
     else if says fields (codes "full") then full_difference fields rank p
     else None
 
--- the first difference, where this is the programme's place on the resident's list
+-- the first difference between the receipts of a resident and a programme that stands at this place
+-- of the resident's list
 abbrev pub difference_at : Receipt → Receipt → Option ℕ → Option Difference
 difference_at r p None = if has p r then Some differs.Unlisted else None
 difference_at r p (Some k) = answer_difference (answer r k) (number_in p.list r.name) r p
@@ -143,7 +146,7 @@ place_text (Some k) = rank_text (decimal (k + 1))
 abbrev pub gone_text : Receipt → Receipt → List ℕ
 gone_text r p = if r.gone then joined (r.name ∷ codes " is withdrawn" ∷ []) else joined (p.name ∷ codes " is withdrawn" ∷ [])
 
--- the words on the places of a programme that is full of residents before this one
+-- the words on the places of a full programme, all of which went to residents before this one
 abbrev pub full_text : Cells → List ℕ
 full_text fields =
     if bytes_eq (text_at fields 3) (codes "0") then codes ", and it has no places"
@@ -151,7 +154,7 @@ full_text fields =
     then codes ", and its place went to the resident whom it lists " ++ rank_text (text_at fields 2)
     else codes ", and all its " ++ (text_at fields 3 ++ (codes " places went to residents whom it lists before, the last of them " ++ rank_text (text_at fields 2)))
 
--- what the two receipts both say, from the resident's answer about the programme
+-- what both receipts say, in words, from the resident's answer about the programme
 abbrev pub answer_agreed : Cells → Receipt → Receipt → List ℕ
 answer_agreed fields r p =
     if says fields (codes "withdrawn") then gone_text r p
@@ -164,11 +167,11 @@ abbrev pub agreed_at : Receipt → Receipt → Option ℕ → List ℕ
 agreed_at r p None = joined (r.name ∷ codes " does not list " ∷ p.name ∷ [])
 agreed_at r p (Some k) = answer_agreed (answer r k) r p
 
--- the first words on what differs: the resident's receipt says the answer's word, and
+-- the beginning of a sentence on a difference: what the resident's receipt says
 abbrev pub word_pieces : Cells → Receipt → Cells
 word_pieces fields r = r.name ∷ codes "'s receipt says " ∷ text_at fields 0 ∷ codes ", and " ∷ []
 
--- what is said of two receipts of which only one tells a withdrawal: the answer's word, and who is withdrawn or that
+-- the words on two receipts that disagree about a withdrawal: the resident's answer, and who is withdrawn, or that
 -- neither is
 abbrev pub withdrawn_differing : Cells → Receipt → Receipt → List ℕ
 withdrawn_differing fields r p =
@@ -216,12 +219,12 @@ differing differs.Quota fields r p = quota_differing fields r p
 differing differs.Filled fields r p = filled_differing r p
 differing differs.Last fields r p = last_differing fields r p
 
--- the resident's answer at this choice, or nothing without one
+-- the resident's answer at this choice; empty without a choice
 abbrev pub answer_at : Receipt → Option ℕ → Cells
 answer_at r None = []
 answer_at r (Some k) = answer r k
 
--- whether they agree, and what they say
+-- whether two receipts agree, and what they say
 abbrev pub compared_words : Receipt → Receipt → Option ℕ → Option Difference → List ℕ
 compared_words r p k None = codes " agree: " ++ agreed_at r p k
 compared_words r p k (Some d) = codes " differ: " ++ differing d (answer_at r k) r p

@@ -1,4 +1,4 @@
--- What a receipt tells, as it is read from rows, and the rows that a receipt with this content has.
+-- The content of a receipt, as it is read from rows, and the rows of a receipt with this content.
 use Rattle.std.specs.Prelude.{ℕ, ◌+◌, ◌&&◌, not, Bool, true, false, if◌then◌else◌, Option, Some, None, List, [], ◌∷◌, ◌++◌, bytes_eq, codes, decimal, drop, length, map}
 use Rattle.std.specs.List.{range_with_len}
 use Rattle.hex.specs.Hex.{encode_lower}
@@ -6,9 +6,9 @@ use Rattle.receipt_check.specs.Rows.{Cells, text_at, row_at, cell, lines}
 use Rattle.receipt_check.specs.declared.kind.Kind.{Kind}
 use Rattle.receipt_check.specs.declared.kind.Kind.TheVariants.{Programme, Resident}
 
--- What a receipt tells. Numbers and digests are as they are written. `named` has what stands between the commas of the
--- real name's row after its `N`, or nothing without such a row. The last three are of the result, and are not looked at
--- without one.
+-- The content of a receipt. Numbers and digests are as they are written. `named` has the pieces between commas of the
+-- real name's row after its `N`, or nothing without such a row. The last three parts are those of the result, and are
+-- not used without a result.
 pub record Receipt : Type 0 where
   pub kind : Kind
   pub name : List ℕ
@@ -43,7 +43,8 @@ kind_in rows = if bytes_eq (cell rows 0 2) (codes "P") then Programme else Resid
 abbrev pub has_list_in : List Cells → Bool
 has_list_in rows = is_programme (kind_in rows) && bytes_eq (cell rows 4 0) (codes "P")
 
--- the place of the row with the member's list; for a programme without a list, of its quota's row
+-- the place of the row with the member's list; for a programme without a list, the place of the row
+-- with its quota
 abbrev pub list_place : Bool → ℕ
 list_place has_list = if has_list then 4 else 3
 
@@ -87,7 +88,7 @@ end_in rows = end_place (has_list_in rows) (gone_in rows) (named_in rows)
 abbrev pub own_in : Cells → Option (List ℕ)
 own_in row = if bytes_eq (text_at row 0) (codes "M") then Some (text_at row 2) else None
 
--- the content that these rows give
+-- the content of the receipt with these rows
 unfoldable pub read : List Cells → Receipt
 read rows = record {
   kind = kind_in rows;
@@ -120,7 +121,7 @@ abbrev pub name_rows : Cells → List Cells
 name_rows [] = []
 name_rows (piece ∷ rest) = (codes "N" ∷ piece ∷ rest) ∷ []
 
--- the rows after a member's list: of its withdrawal, and of its real name
+-- the rows after a member's list: the row of a withdrawal, and the row of the real name
 abbrev pub last_rows : Receipt → List Cells
 last_rows r = gone_rows r ++ name_rows r.named
 
@@ -165,15 +166,16 @@ result_rows_of Resident r = placed_row r.name r.own ∷ map (reason_row r) (rang
 abbrev pub result_rows : Receipt → List Cells
 result_rows r = result_rows_of r.kind r
 
--- the text that was sealed of a member before the match; `result_text` is that after it
+-- the text that was sealed for a member before the match; `result_text` is the text sealed after
+-- the match
 unfoldable pub lists_text : Receipt → List ℕ
 lists_text r = lines (lists_rows r)
 
 unfoldable pub result_text : Receipt → List ℕ
 result_text r = lines (result_rows r)
 
--- the two rows of a tree before the text of a leaf: the number of members and the published root; the member's number,
--- the salt and the path
+-- the two rows before a leaf's text: one with the number of members and the published root, one with the member's
+-- number, the salt and the path
 abbrev pub part_rows : List ℕ → List ℕ → List ℕ → List ℕ → Cells → List Cells
 part_rows word root count index opening =
     (word ∷ count ∷ encode_lower root ∷ []) ∷ (codes "opens" ∷ word ∷ index ∷ opening) ∷ []
@@ -182,7 +184,7 @@ part_rows word root count index opening =
 abbrev pub first_row : Receipt → Cells
 first_row r = codes "receipt" ∷ codes "2" ∷ letter_of r.kind ∷ r.name ∷ []
 
--- what a receipt has of the result; nothing if no root of a result was published
+-- the part of a receipt about the result; nothing if no root of a result was published
 abbrev pub result_part : Option (List ℕ) → Receipt → List ℕ
 result_part None r = []
 result_part (Some root) r = lines (part_rows (codes "result") root r.count r.index r.second) ++ result_text r

@@ -28,8 +28,8 @@ abbrev pub without_returns : List ℕ → List ℕ
 without_returns [] = []
 without_returns (b ∷ after) = kept b after ++ without_returns after
 
--- The text of a receipt as it was printed. A program that only put a byte order mark before it, or a carriage return
--- before each line feed, changed nothing that is hashed.
+-- The text of a receipt as it was printed. A byte order mark before the text, and carriage returns before line
+-- feeds, are left out, since they are not hashed.
 unfoldable pub plain_text : List ℕ → List ℕ
 plain_text bytes = without_returns (without_mark bytes)
 
@@ -37,7 +37,7 @@ plain_text bytes = without_returns (without_mark bytes)
 abbrev pub pieces : ℕ → List ℕ → List (List ℕ)
 pieces mark text = slice_split (λ b. b == mark) text
 
--- all but the last
+-- all pieces except the last
 abbrev pub but_last : List (List ℕ) → List (List ℕ)
 but_last lines = take (length lines - 1) lines
 
@@ -45,8 +45,8 @@ but_last lines = take (length lines - 1) lines
 unfoldable pub split_rows : List ℕ → List Cells
 split_rows text = map (pieces 44) (but_last (pieces 10 text))
 
--- the fields of row k, or none if it is missing; `text_at` is field i of a row, or empty if it is missing, and
--- `cell` field i of row k
+-- the fields of row k; `text_at` is field i of a row, and `cell` is field i of row k; a missing row or field
+-- is empty
 abbrev pub row_at : List Cells → ℕ → Cells
 row_at rows k = slice_index_or rows k []
 

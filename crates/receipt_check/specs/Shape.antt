@@ -1,4 +1,5 @@
--- The first row that isn't as the receipt with this content has it, and what is wrong with it.
+-- The first row that differs from the printed receipt with the same content, and what is wrong with
+-- it.
 use Rattle.std.specs.Prelude.{ℕ, ◌+◌, ◌==◌, ◌&&◌, nat_lt, nat_le, not, Bool, true, false, if◌then◌else◌, Option, Some, None, List, [], ◌∷◌, option_map, bytes_eq, codes, length}
 use Rattle.receipt_check.specs.Rows.{Cells, text_at, row_at, cell}
 use Rattle.receipt_check.specs.Receipt.{Receipt, end_of, receipt_text}
@@ -11,7 +12,7 @@ use Rattle.hex.specs.Hex.{encode_lower}
 abbrev pub feeds : ℕ → ℕ
 feeds byte = if byte == 10 then 1 else 0
 
--- the first row, from 0, in which two texts differ, if they do
+-- the first row, counted from 0, in which two texts differ; none if they are equal
 abbrev pub first_unlike : List ℕ → List ℕ → Option ℕ
 first_unlike [] [] = None
 first_unlike [] (y ∷ ys) = Some 0
@@ -38,12 +39,13 @@ result_wrong root r rows k =
     else if k == end_of r + 1 then (if bytes_eq (cell rows k 2) r.index then wrong.OpeningRow else wrong.Place)
     else wrong.Result
 
--- what is wrong with row k, from 0, which comes after those of the lists
+-- what is wrong with row k, from 0, which comes after the rows of the lists
 abbrev pub later_wrong : Option (List ℕ) → Receipt → List Cells → ℕ → Wrong
 later_wrong None r rows k = if bytes_eq (cell rows k 0) (codes "result") then wrong.Unasked else wrong.List
 later_wrong (Some root) r rows k = result_wrong root r rows k
 
--- What is wrong with the first row that isn't as the receipt has it. If there is no such row, the receipt is cut off.
+-- What is wrong with row k, the first row that differs from the printed receipt. If the file has no row k, the
+-- receipt is cut off.
 unfoldable pub shape_wrong : List ℕ → Option (List ℕ) → Receipt → List Cells → ℕ → Wrong
 shape_wrong lists_root result_root r rows k =
     if nat_le (length rows) k then wrong.Missing
@@ -57,13 +59,13 @@ shape_wrong lists_root result_root r rows k =
 abbrev pub at : ℕ → Wrong → Fault
 at k w = record { row = k + 1; wrong = w }
 
--- the fault of the first row of a text that isn't as the receipt with this content has it
+-- the fault of the first row of a text that differs from the printed receipt with this content
 unfoldable pub shape_fault : List ℕ → Option (List ℕ) → Receipt → List Cells → List ℕ → Option Fault
 shape_fault lists_root result_root r rows text =
     option_map (λ k. at k (shape_wrong lists_root result_root r rows k)) (first_unlike text (receipt_text lists_root result_root r))
 
--- whether a receipt with this fault isn't as it was given: a program changed it, a part is missing, or it is of an earlier
--- form; else the receipt is wrong
+-- whether this fault shows that the file isn't as it was given: changed by a program, without a part, or of an earlier
+-- form; any other fault shows that the receipt is wrong
 abbrev pub is_changed : Wrong → Bool
 is_changed wrong.Header = true
 is_changed wrong.Age = true

@@ -104,10 +104,10 @@ real_words name fields = field fields 1 ++ (id_words (field fields 2) ++ (codes 
 unfoldable pub told_name : Receipt → List ℕ
 told_name r = if has_real_name r.named then real_words r.name (real_fields r.named) else []
 
--- what a receipt with this content shows
+-- what a receipt with this content shows, in words
 abbrev pub told : Option (List ℕ) → Receipt → List ℕ
 told result_root r = told_name r ++ (told_lists r ++ told_result_if result_root r)
 
--- what the receipt with these bytes shows
+-- what the receipt with these bytes shows, in words
 abbrev pub told_of : Option (List ℕ) → List ℕ → List ℕ
 told_of result_root bytes = told result_root (read (split_rows (plain_text bytes)))

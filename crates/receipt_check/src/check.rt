@@ -25,7 +25,7 @@ use std::random::RandomSource;
 /// How many bytes a receipt has at most. The longest receipt that a docket can have is shorter.
 pub(crate) const LONGEST: usize = 2_000_000;
 
-/// The content of the receipt with these rows and the names on its list, or the first thing that is wrong with it.
+/// The content of the receipt with these rows and the names on its list, or the receipt's first fault.
 #[tactic(auto, unfolding(crate::specs::Faults::text_fault))]
 pub(crate) fn checked<'r, 'a>(
     alloc: Global,
@@ -54,7 +54,7 @@ pub(crate) fn checked<'r, 'a>(
     }
 }
 
-// What the receipt with this text shows, in words, or the first thing that is wrong with it.
+// What the receipt with this text shows, in words, or the receipt's first fault.
 fn words_of(
     alloc: Global,
     keys: RandomState,
@@ -77,7 +77,7 @@ fn words_of(
     }
 }
 
-// What the receipt shows, in words, or why it shows nothing.
+// What the receipt shows, in words, or why there is no answer.
 fn answer_of<H: RandomSource>(
     rt: &H,
     alloc: Global,
@@ -105,8 +105,8 @@ fn answer_of<H: RandomSource>(
     }
 }
 
-/// Checks a receipt against the published roots, and writes what it shows in words. If something is wrong with it, the fault
-/// is the first thing that is wrong, and nothing is written.
+/// Checks a receipt against the published roots, and writes what it shows in words. If something is wrong with the
+/// receipt, nothing is written, and the answer is the first fault.
 pub fn serve_receipt<W: Write, H: RandomSource>(
     rt: &H,
     alloc: Global,

@@ -23,7 +23,7 @@ use std::hash::RandomState;
 use std::io::Write;
 use std::random::RandomSource;
 
-/// The text of a receipt as it was printed; nothing of a file that is longer than any receipt.
+/// The text of a receipt as it was printed; an empty text if the file is longer than any receipt.
 pub(crate) fn short_text(alloc: Global, file: &[u8]) -> Result<Vec<u8>, AllocError>
     ensures { IfOk result (λ text. text.items ≡ pair.short_text file.now) }
 {
@@ -33,7 +33,7 @@ pub(crate) fn short_text(alloc: Global, file: &[u8]) -> Result<Vec<u8>, AllocErr
     plain_text(alloc, file)
 }
 
-// What is wrong with the number of members that a receipt tells.
+// The fault of a receipt whose number of members isn't the published number.
 fn members_fault(lists: &Published, outcome: &Published, shown: &Shown) -> Option<Fault>
     ensures { result
         ≡ pair.members_fault lists.now.members outcome.now.members (content shown.now) }
@@ -47,7 +47,7 @@ fn members_fault(lists: &Published, outcome: &Published, shown: &Shown) -> Optio
     None
 }
 
-/// The receipt in the rows of a file's text, or what is wrong with it.
+/// The receipt in the rows of a file's text, or its first fault.
 #[tactic(auto, unfolding(crate::specs::Pair::compared_fault))]
 pub(crate) fn compared<'r, 'a>(
     alloc: Global,
@@ -80,7 +80,7 @@ pub(crate) fn compared<'r, 'a>(
     }
 }
 
-// What is wrong with a receipt whose member has to be of this side.
+// The fault of a receipt whose member is of side `kind` and has to be of side `wanted`.
 fn kind_fault(wanted: Kind, kind: Kind) -> Option<Fault>
     ensures { result ≡ pair.kind_fault wanted kind }
 {
@@ -91,7 +91,8 @@ fn kind_fault(wanted: Kind, kind: Kind) -> Option<Fault>
     }
 }
 
-// The receipt of a member of this side in the rows of a file's text, or what is wrong with it.
+// The receipt in the rows of a file's text, whose member has to be of this side, or its first
+// fault.
 fn wanted<'r, 'a>(
     alloc: Global,
     keys: RandomState,
@@ -120,7 +121,8 @@ fn wanted<'r, 'a>(
     }
 }
 
-// The sentence on two receipts, and whether they agree; or what is wrong with one of them, and with which.
+// The sentence on two receipts, and whether they agree; or the first fault of one of them, with this
+// receipt's number.
 fn pair_of(
     alloc: Global,
     keys: RandomState,
@@ -130,17 +132,20 @@ fn pair_of(
     programme: &[u8],
 ) -> Result<(Vec<u8>, bool), CompareFault>
     ensures { MatchResult result
-        (λ said. (pair_fault lists.now outcome.now resident.now programme.now ≡ None)
-        × (said.0.items ≡ pair.pair_words (content_of resident.now) (content_of programme.now))
-        × (said.1
+        (λ sentence. (pair_fault lists.now outcome.now resident.now programme.now ≡ None)
+        × (sentence.0.items ≡ pair.pair_words (content_of resident.now) (content_of programme.now))
+        × (sentence.1
         ≡ not (is_some (pair.difference (content_of resident.now) (content_of programme.now)))))
         (IsCompareFault (pair_fault lists.now outcome.now resident.now programme.now)) }
 {
-    let (one_text, other_text) = (short_text(alloc, resident)?, short_text(alloc, programme)?);
-    let one_rows = split_rows(alloc, one_text.as_slice())?;
-    let other_rows = split_rows(alloc, other_text.as_slice())?;
-    let (text, rows) = (one_text.as_slice(), one_rows.as_slice());
-    let one = match wanted(
+    let (resident_text, programme_text) = (
+        short_text(alloc, resident)?,
+        short_text(alloc, programme)?,
+    );
+    let resident_rows = split_rows(alloc, resident_text.as_slice())?;
+    let programme_rows = split_rows(alloc, programme_text.as_slice())?;
+    let (text, rows) = (resident_text.as_slice(), resident_rows.as_slice());
+    let resident_side = match wanted(
         alloc,
         keys,
         Kind::Resident,
@@ -153,8 +158,8 @@ fn pair_of(
         Ok(side) => side,
         Err(fault) => return Err(CompareFault::Wrong(0, fault)),
     };
-    let (text, rows) = (other_text.as_slice(), other_rows.as_slice());
-    let other = match wanted(
+    let (text, rows) = (programme_text.as_slice(), programme_rows.as_slice());
+    let programme_side = match wanted(
         alloc,
         keys,
         Kind::Programme,
@@ -167,10 +172,10 @@ fn pair_of(
         Ok(side) => side,
         Err(fault) => return Err(CompareFault::Wrong(1, fault)),
     };
-    let found = first_difference(&one, &other);
-    let mut said = Vec::new(alloc);
-    put_pair(&mut said, found, &one, &other)?;
-    Ok((said, found.is_none()))
+    let found = first_difference(&resident_side, &programme_side);
+    let mut sentence = Vec::new(alloc);
+    put_pair(&mut sentence, found, &resident_side, &programme_side)?;
+    Ok((sentence, found.is_none()))
 }
 
 /// Checks the receipts of a resident and of a programme against what was published. Writes whether they agree, or in

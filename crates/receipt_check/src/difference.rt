@@ -13,15 +13,16 @@ use crate::side::Side;
 /// The first thing in which the receipts of a resident and a programme differ.
 #[derive(Clone, Copy, Debug, PartialEq, Eq)]
 pub enum Difference {
-    /// The programme has the resident, and the resident doesn't list the programme.
+    /// The programme has the resident, though the resident doesn't list the programme.
     Unlisted,
-    /// The answer is `withdrawn` and neither is withdrawn, or one of them is and the answer is another one.
+    /// The answer is `withdrawn` though neither member is withdrawn, or another answer though one of them
+    /// is.
     Withdrawn,
-    /// The answer is `unranked` and the programme lists the resident, or it doesn't and the answer is
-    /// another one.
+    /// The answer is `unranked` though the programme lists the resident, or another answer though it
+    /// doesn't.
     Unranked,
-    /// The answer is `matched` and the programme doesn't have the resident, or it does and the answer is
-    /// another one.
+    /// The answer is `matched` though the programme doesn't have the resident, or another answer though
+    /// it does.
     Matched,
     /// The resident's rank on the programme's list.
     Rank,

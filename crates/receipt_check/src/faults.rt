@@ -1,4 +1,4 @@
-//! What is wrong with a receipt's content.
+//! The faults of a receipt's content.
 ghost use Rattle.std.specs.Prelude.{◌≡◌, ◌<◌, ◌^◌, ◌+◌, ℕ, Some, None, true, IfOk, MatchResult, Option, length, option_map};
 ghost use Rattle.docket_names.specs.Words as words;
 ghost use Rattle.receipt_check.specs.Faults as faults;
@@ -17,7 +17,7 @@ use docket_names::{Texts, is_name};
 use std::alloc::{AllocError, Global};
 use std::hash::RandomState;
 
-// The place of row `k` after the root and the opening of a receipt's result.
+// The place in the receipt of row `k` of the result's text.
 fn result_place(shown: &Shown, k: usize) -> usize
     requires { k < 2 ^ 63 }
     ensures { result ≡ faults.result_place (content shown.now) k }
@@ -125,7 +125,7 @@ fn result_fault(
     }
 }
 
-// What is wrong with the row of the real name, if there is one.
+// The fault of the real name's row, if there is such a row.
 fn real_fault(alloc: Global, shown: &Shown) -> Result<Option<Fault>, AllocError>
     ensures { IfOk result (λ fault. fault ≡ faults.real_fault (content shown.now)) }
 {

@@ -21,7 +21,7 @@ use crate::side::Side;
 use std::alloc::{AllocError, Global};
 use std::hash::RandomState;
 
-/// The receipts of a folder, and what is kept to look things up in them.
+/// The receipts of a folder, and what is kept for looking things up in them.
 #[derive(Drop)]
 pub(crate) struct Held<'r, 'a> {
     sides: Vec<Side<'r, 'a>>,
@@ -136,7 +136,8 @@ impl<'r, 'a> Held<'r, 'a> {
         Ok(())
     }
 
-    // Adds the pairs of a resident's receipt with those of the programmes on its list.
+    // Adds the pairs of a resident's receipt with the receipts of the programmes on the resident's
+    // list.
     fn push_choices(&self, pairs: &mut Vec<(usize, usize)>, r: usize) -> Result<(), AllocError>
         requires held { IsHeld self.now }
         requires within { r < length self.now.sides.items }
@@ -164,8 +165,8 @@ impl<'r, 'a> Held<'r, 'a> {
         }
     }
 
-    // Adds the pair of a resident's receipt with that of the programme with this name, unless the
-    // resident lists this programme.
+    // Adds the pair of a resident's and a programme's receipt, unless the resident lists the
+    // programme with this name.
     fn push_unlisted(
         &self,
         pairs: &mut Vec<(usize, usize)>,
@@ -184,7 +185,7 @@ impl<'r, 'a> Held<'r, 'a> {
         Ok(())
     }
 
-    // Adds the pairs of a programme's receipt with those of its residents who don't list it.
+    // Adds the pairs of a programme's receipt with the receipts of its residents who don't list it.
     fn push_members(&self, pairs: &mut Vec<(usize, usize)>, p: usize) -> Result<(), AllocError>
         requires held { IsHeld self.now }
         requires within { p < length self.now.sides.items }
@@ -301,7 +302,7 @@ impl<'r, 'a> Held<'r, 'a> {
         self.is_whole(members) && differing.len() == 0
     }
 
-    /// Adds what is said of the folder's receipts, where `members` is the number of all members. Returns
+    /// Adds the text about the folder's receipts, where `members` is the number of all members. Returns
     /// whether the placement is stable.
     pub(crate) fn put_said(
         &self,
@@ -318,9 +319,9 @@ impl<'r, 'a> Held<'r, 'a> {
         let pairs = self.pairs(alloc)?;
         let differing = self.differing(alloc, pairs.as_slice())?;
         self.put_differing(text, differing.as_slice())?;
-        let there = self.sides.as_slice().len();
+        let present = self.sides.as_slice().len();
         let (compared, differ) = (pairs.as_slice().len(), differing.as_slice().len());
-        put_counts(text, there, members, compared, differ)?;
+        put_counts(text, present, members, compared, differ)?;
         let stable = self.is_stable(members, differing.as_slice());
         put_stable(text, stable)?;
         Ok(stable)
@@ -343,19 +344,19 @@ fn put_two(
     put(text, end)
 }
 
-// Adds how many of all members have a receipt there, how many pairs were compared, and how many of them
-// differ.
+// Adds how many of all members have a receipt in the folder, how many pairs were compared, and how many
+// pairs differ.
 fn put_counts(
     text: &mut Vec<u8>,
-    there: usize,
+    present: usize,
     members: usize,
     compared: usize,
     differing: usize,
 ) -> Result<(), AllocError>
     ensures { OnOk result (Grows text.old text.new
-        (folder.counts_text there members compared differing)) }
+        (folder.counts_text present members compared differing)) }
 {
-    put_two(text, there, b" of ", members, b" members are there, and ")?;
+    put_two(text, present, b" of ", members, b" members are there, and ")?;
     put_two(
         text,
         compared,

@@ -2,12 +2,12 @@
 ghost use Rattle.std.specs.Prelude.{◌≡◌};
 ghost use Rattle.receipt_check.specs.Receipt as receipt;
 
-/// Whose receipt this is: the member's side.
+/// The side of the member to whom a receipt belongs.
 #[derive(Clone, Copy, Debug, PartialEq, Eq)]
 pub enum Kind {
-    /// A programme's.
+    /// The member is a programme.
     Programme,
-    /// A resident's.
+    /// The member is a resident.
     Resident,
 }
 

@@ -1,7 +1,7 @@
 //! The check of a receipt of a sealed match.
 //!
-//! The receipt is read into what it tells, whatever it has. Then the receipt that tells this is printed again, and the two are
-//! compared. What it tells is tested last, and put into words.
+//! Any file is read as the content of a receipt. Then the receipt with this content is printed, and compared with the
+//! file. At last the content is tested, and put into words.
 #![tactic(auto)]
 
 mod check;

@@ -11,7 +11,7 @@ use docket_names::{Texts, is_name};
 use std::alloc::{AllocError, Global};
 use std::hash::RandomState;
 
-// Whether the name stands on the list, if there is one that it has to stand on.
+// Whether the name stands on the list; true without a list.
 fn is_on(on: Option<&Texts>, name: &[u8]) -> bool
     ensures { result ≡ faults.is_on (option_map (λ on. on.now) on.entry) name.now }
 {
@@ -21,8 +21,8 @@ fn is_on(on: Option<&Texts>, name: &[u8]) -> bool
     }
 }
 
-// What is wrong with a name after those seen before: it is no name, it isn't on the list, or it was
-// seen before.
+// What is wrong with a name: it is no name, it isn't on the list, or it is among the names seen
+// before.
 fn name_wrong(on: Option<&Texts>, seen: &Texts, name: &[u8]) -> Option<Wrong>
     ensures { result ≡ faults.name_wrong (option_map (λ on. on.now) on.entry) seen.now name.now }
 {
@@ -48,8 +48,8 @@ pub(crate) fn add(seen: &mut Texts, name: &[u8]) -> Result<(), AllocError>
     Ok(())
 }
 
-/// The names, if each is right and stands once; or the first wrong name's place, and what is wrong
-/// with the name.
+/// The names, if all are right and different; or the place of the first wrong name, and what is
+/// wrong with it.
 pub(crate) fn names_in(
     alloc: Global,
     keys: RandomState,

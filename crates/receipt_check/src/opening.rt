@@ -49,7 +49,7 @@ pub fn digest_of(digits: &[u8]) -> Option<[u8; 32]>
     }
 }
 
-// The digests that these fields write. None if one of the fields writes none.
+// The digests that these fields write. None if one of the fields is no digest.
 fn digests_of(alloc: Global, fields: &[&[u8]]) -> Result<Option<Vec<[u8; 32]>>, AllocError>
     ensures { IfOk result (λ found. option_map (λ (ds : Vec (List ℕ)). ds.items) found
         ≡ faults.digests_of (fields_in fields.now)) }
@@ -64,7 +64,8 @@ fn digests_of(alloc: Global, fields: &[&[u8]]) -> Result<Option<Vec<[u8; 32]>>, 
     Ok(Some(digests))
 }
 
-// What is wrong with the opening of a root by a leaf with this text.
+// Why these fields, a salt and a path, don't open this root from the leaf with this text; none if
+// they do.
 #[tactic(auto, unfolding(crate::specs::Faults::opening_wrong))]
 fn opening_wrong(
     alloc: Global,
@@ -95,7 +96,7 @@ fn opening_wrong(
     Ok(Some(Wrong::Opening))
 }
 
-// What is wrong, if anything is, as a fault of the row at this place.
+// The fault of the row at this place, if something is wrong with the row.
 fn fault_at(place: usize, wrong: Option<Wrong>) -> Option<Fault>
     requires { place < 2 ^ 63 }
     ensures { result ≡ faults.fault_at place wrong }
@@ -106,7 +107,7 @@ fn fault_at(place: usize, wrong: Option<Wrong>) -> Option<Fault>
     }
 }
 
-// What is wrong with the opening under the result's root, if such a root was published.
+// The fault of the opening of the result's root. None if no such root was published.
 fn second_fault(
     alloc: Global,
     root: Option<&[u8; 32]>,
@@ -125,7 +126,7 @@ fn second_fault(
     Ok(fault_at(shown.end() + 1, wrong))
 }
 
-// What is wrong with the openings of the member with this number among `count` members.
+// The first fault of the openings of the member with number `index` among `count` members.
 fn openings_at(
     alloc: Global,
     lists_root: &[u8; 32],
@@ -153,7 +154,7 @@ fn openings_at(
     second_fault(alloc, result_root, count, index, shown)
 }
 
-/// What is wrong with the openings of a receipt.
+/// The first fault of a receipt's openings.
 #[tactic(auto, unfolding(crate::specs::Faults::openings_fault))]
 pub(crate) fn openings_fault(
     alloc: Global,

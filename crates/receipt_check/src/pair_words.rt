@@ -1,4 +1,4 @@
-//! What is said of the receipts of a resident and a programme.
+//! The sentence on the receipts of a resident and a programme.
 ghost use Rattle.std.specs.Prelude.{◌≡◌, ◌<◌, ◌^◌, IfSome, OnOk, codes};
 ghost use Rattle.receipt_check.specs.Pair as pair;
 ghost use Rattle.receipt_check.specs.Rows.{Grows};
@@ -97,7 +97,7 @@ fn put_agreed(
     put_full(text, fields)
 }
 
-// Adds the beginning of a difference: the resident's receipt says the answer's word, and.
+// Adds the beginning of a sentence on a difference: what the resident's receipt says.
 fn put_word(text: &mut Vec<u8>, fields: &[&[u8]], resident: &Side) -> Result<(), AllocError>
     ensures { OnOk result (Grows text.old text.new
         (pair.joined (pair.word_pieces (fields_in fields.now) (receipt_of resident.now)))) }
@@ -106,8 +106,7 @@ fn put_word(text: &mut Vec<u8>, fields: &[&[u8]], resident: &Side) -> Result<(),
     put_all(text, &[one, b"'s receipt says ", word, b", and "])
 }
 
-// Adds the difference that the answer is `withdrawn` and nobody is, or that somebody is and the answer
-// is another one.
+// Adds the difference that only one of the two receipts says that a member is withdrawn.
 fn put_withdrawn(
     text: &mut Vec<u8>,
     fields: &[&[u8]],
@@ -135,7 +134,7 @@ fn put_listed(text: &mut Vec<u8>, resident: &Side, programme: &Side) -> Result<(
     put_place(text, programme.place(one))
 }
 
-// Adds the difference whether the programme lists the resident.
+// Adds the difference that only one receipt says that the programme lists the resident.
 fn put_unranked(
     text: &mut Vec<u8>,
     fields: &[&[u8]],
@@ -154,7 +153,7 @@ fn put_unranked(
     put_all(text, &[other, b" does not list ", one])
 }
 
-// Adds the difference whether the programme has the resident.
+// Adds the difference that only one receipt says that the programme has the resident.
 fn put_matched(
     text: &mut Vec<u8>,
     fields: &[&[u8]],
@@ -172,7 +171,7 @@ fn put_matched(
     put_all(text, &[other, b" has ", one])
 }
 
-// Adds the difference between the ranks of the resident on the programme's list.
+// Adds the difference between the resident's ranks on the programme's list in the two receipts.
 fn put_ranks(
     text: &mut Vec<u8>,
     fields: &[&[u8]],
@@ -190,7 +189,7 @@ fn put_ranks(
     put_place(text, programme.place(resident.shown.name))
 }
 
-// Adds the difference between the quotas of the programme.
+// Adds the difference between the programme's quotas in the two receipts.
 fn put_quotas(
     text: &mut Vec<u8>,
     fields: &[&[u8]],
@@ -224,7 +223,7 @@ fn put_filled(text: &mut Vec<u8>, resident: &Side, programme: &Side) -> Result<(
     put_all(text, &[b" of ", programme.shown.quota, b" are filled"])
 }
 
-// Adds the difference between the last ranks that got a place.
+// Adds the difference between the last ranks that got a place, in the two receipts.
 fn put_lasts(
     text: &mut Vec<u8>,
     fields: &[&[u8]],

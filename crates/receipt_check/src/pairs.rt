@@ -17,7 +17,7 @@ use std::hash::RandomState;
 use std::io::Write;
 use std::random::RandomSource;
 
-// The text of each file, as a receipt was printed.
+// The text of each file's receipt, as it was printed.
 fn texts_of(alloc: Global, files: &[Vec<u8>]) -> Result<Vec<Vec<u8>>, AllocError>
     ensures { IfOk result (λ texts. bytes_in texts.items
         ≡ map pair.short_text (bytes_in files.now)) }
@@ -40,7 +40,7 @@ fn rows_in<'a>(alloc: Global, texts: &'a [Vec<u8>]) -> Result<Vec<Vec<Vec<&'a [u
     Ok(rows)
 }
 
-// The receipts of all files, or the first file that is at fault, and its fault.
+// The receipts of all files, or the first file at fault and its fault.
 #[tactic(auto, unfolding(crate::specs::Folder::folder_fault))]
 fn gather<'r, 'a>(
     alloc: Global,
@@ -73,8 +73,8 @@ fn gather<'r, 'a>(
     Ok(held)
 }
 
-// What is said of the receipts of all files, and whether the placement is stable; or the first file that is at fault,
-// and its fault.
+// The text about the receipts of all files, and whether the placement is stable; or the first file at fault and its
+// fault.
 fn said_of(
     alloc: Global,
     keys: RandomState,
@@ -83,10 +83,10 @@ fn said_of(
     files: &[Vec<u8>],
 ) -> Result<(Vec<u8>, bool), CompareFault>
     ensures { MatchResult result
-        (λ said. (folder.folder_fault lists.now outcome.now (bytes_in files.now) ≡ None)
-        × (said.0.items ≡ folder.folder_text lists.now.members
+        (λ text. (folder.folder_fault lists.now outcome.now (bytes_in files.now) ≡ None)
+        × (text.0.items ≡ folder.folder_text lists.now.members
         (folder.contents_of (bytes_in files.now)))
-        × (said.1 ≡ folder.is_stable lists.now.members (folder.contents_of (bytes_in files.now))))
+        × (text.1 ≡ folder.is_stable lists.now.members (folder.contents_of (bytes_in files.now))))
         (IsCompareFault (folder.folder_fault lists.now outcome.now (bytes_in files.now))) }
 {
     let texts = texts_of(alloc, files)?;
@@ -100,13 +100,13 @@ fn said_of(
         texts.as_slice(),
         rows.as_slice(),
     )?;
-    let mut said = Vec::new(alloc);
-    let stable = held.put_said(alloc, &mut said, lists.members as usize)?;
-    Ok((said, stable))
+    let mut text = Vec::new(alloc);
+    let stable = held.put_said(alloc, &mut text, lists.members as usize)?;
+    Ok((text, stable))
 }
 
 /// Checks the receipts of a folder against what was published, and compares those of residents and programmes who
-/// name each other. Writes which of them differ, how many members and pairs there are, and whether this shows that
+/// name each other. Writes which pairs differ, how many members and pairs there are, and whether this shows that
 /// the placement is stable. Returns whether it does. If something is wrong with a receipt, nothing is written.
 pub fn serve_pairs<W: Write, H: RandomSource>(
     rt: &H,

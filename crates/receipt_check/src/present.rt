@@ -1,4 +1,4 @@
-//! The members of one side whose receipts are there.
+//! The members of one side whose receipts the folder has.
 ghost use Rattle.std.specs.Prelude.{◌≡◌, ◌∷◌, ◌++◌, [], false, true, is_some, OnOk};
 ghost use Rattle.docket_names.specs.Texts.{is_declared, number_in};
 ghost use Rattle.docket_names.specs.Words as words;
@@ -9,7 +9,8 @@ use docket_names::Texts;
 use std::alloc::{AllocError, Global};
 use std::hash::RandomState;
 
-/// The members of one side whose receipts are there, each with the number of its file.
+/// The members of one side whose receipts the folder has, each with the number of the receipt's
+/// file.
 #[derive(Drop)]
 pub(crate) struct Present {
     names: Texts,
@@ -28,7 +29,7 @@ impl Present {
         }
     }
 
-    /// Whether the receipt of the member with this name is there.
+    /// Whether the folder has the receipt of the member with this name.
     pub(crate) fn has(&self, name: &[u8]) -> bool
         ensures { result ≡ is_declared self.now.names name.now }
     {

@@ -1,4 +1,4 @@
-//! Printing rows, and the receipt that has some content.
+//! How rows are printed, and the receipt with some content.
 ghost use Rattle.std.specs.Prelude.{◌≡◌, ◌∷◌, ◌++◌, [], ℕ, List, IfOk, OnOk, codes, decimal, length, ◌<◌, ◌+◌, ◌^◌, map, option_map};
 ghost use Rattle.std.specs.List.{range_with_len};
 ghost use Rattle.std.specs.Global.{Vec};
@@ -92,7 +92,7 @@ pub(crate) fn put_name(text: &mut Vec<u8>, named: &[&[u8]]) -> Result<(), AllocE
     Ok(())
 }
 
-// Adds the rows after a member's list: of its withdrawal, and of its real name.
+// Adds the rows after a member's list: the row of a withdrawal, and the row of a real name.
 fn put_last(text: &mut Vec<u8>, shown: &Shown) -> Result<(), AllocError>
     ensures { OnOk result (Grows text.old text.new
         (lines (receipt.last_rows (content shown.now)))) }
@@ -112,7 +112,7 @@ fn put_list(text: &mut Vec<u8>, shown: &Shown) -> Result<(), AllocError>
     Ok(())
 }
 
-// Adds the rows that were sealed of a member before the match.
+// Adds the rows that were sealed for a member before the match.
 fn put_lists(text: &mut Vec<u8>, shown: &Shown) -> Result<(), AllocError>
     ensures { OnOk result (Grows text.old text.new
         (lines (receipt.lists_rows (content shown.now)))) }
@@ -159,7 +159,7 @@ fn put_placed(text: &mut Vec<u8>, shown: &Shown) -> Result<(), AllocError>
     }
 }
 
-// Adds the row of a resident's choice, from 0.
+// Adds the row of a resident's choice, which is counted from 0.
 fn put_reason(text: &mut Vec<u8>, shown: &Shown, k: usize) -> Result<(), AllocError>
     requires { k < 2 ^ 63 }
     ensures { OnOk result (Grows text.old text.new
@@ -187,7 +187,7 @@ fn put_reasons(text: &mut Vec<u8>, shown: &Shown) -> Result<(), AllocError>
     Ok(())
 }
 
-// Adds the rows that were sealed of a member after the match.
+// Adds the rows that were sealed for a member after the match.
 fn put_result(text: &mut Vec<u8>, shown: &Shown) -> Result<(), AllocError>
     ensures { OnOk result
         (Grows text.old text.new (lines (receipt.result_rows (content shown.now)))) }
@@ -204,7 +204,7 @@ fn put_result(text: &mut Vec<u8>, shown: &Shown) -> Result<(), AllocError>
     }
 }
 
-/// The text that was sealed of a member before the match.
+/// The text that was sealed for a member before the match.
 #[tactic(auto, unfolding(crate::specs::Receipt::lists_text))]
 pub(crate) fn lists_text(alloc: Global, shown: &Shown) -> Result<Vec<u8>, AllocError>
     ensures { IfOk result (λ text. text.items ≡ receipt.lists_text (content shown.now)) }
@@ -214,7 +214,7 @@ pub(crate) fn lists_text(alloc: Global, shown: &Shown) -> Result<Vec<u8>, AllocE
     Ok(text)
 }
 
-/// The text that was sealed of a member after the match.
+/// The text that was sealed for a member after the match.
 #[tactic(auto, unfolding(crate::specs::Receipt::result_text))]
 pub(crate) fn result_text(alloc: Global, shown: &Shown) -> Result<Vec<u8>, AllocError>
     ensures { IfOk result (λ text. text.items ≡ receipt.result_text (content shown.now)) }
@@ -224,8 +224,8 @@ pub(crate) fn result_text(alloc: Global, shown: &Shown) -> Result<Vec<u8>, Alloc
     Ok(text)
 }
 
-/// Adds the two rows of a tree that stand before the text of a leaf: its root's row, and the
-/// opening's.
+/// Adds the two rows of a tree that stand before the text of a leaf: the root's row and the
+/// opening's row.
 pub(crate) fn put_part(
     alloc: Global,
     text: &mut Vec<u8>,
@@ -243,7 +243,7 @@ pub(crate) fn put_part(
     put_row(text, b"opens", &[word, index], opening)
 }
 
-// Adds what a receipt has of the result, if a result's root was published.
+// Adds the part of a receipt about the result, if a result's root was published.
 fn put_result_part(
     alloc: Global,
     text: &mut Vec<u8>,

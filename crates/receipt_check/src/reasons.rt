@@ -46,8 +46,8 @@ fn is_bare(fields: &[&[u8]], word: &[u8]) -> bool
         && field(fields, 3).len() == 0
 }
 
-// Whether the numbers can be true: the places went to residents before this one, or the programme has no
-// places.
+// Whether the numbers of an answer `full` are possible: the places went to residents before this one, or
+// the programme has no places.
 fn is_before(rank: Option<u32>, digits: &[u8], last: Option<u32>, quota: Option<u32>) -> bool
     ensures { result ≡ faults.is_before rank digits.now last quota }
 {
@@ -58,7 +58,7 @@ fn is_before(rank: Option<u32>, digits: &[u8], last: Option<u32>, quota: Option<
     }
 }
 
-// Whether the answer is `full`, with numbers that can be true.
+// Whether the answer is `full`, with numbers that are possible.
 fn is_full(fields: &[&[u8]]) -> bool
     ensures { result ≡ faults.is_full (fields_in fields.now) }
 {
@@ -85,7 +85,8 @@ fn is_later(fields: &[&[u8]]) -> bool
     is_bare(fields, b"better") || is_bare(fields, b"unranked") || is_bare(fields, b"withdrawn")
 }
 
-// Whether an answer can stand at this place; `gone` says whether the resident is withdrawn.
+// Whether a choice that stands so can have this answer; `gone` says whether the resident is
+// withdrawn.
 fn can_stand(gone: bool, stand: Stand, fields: &[&[u8]]) -> bool
     ensures { result ≡ faults.can_stand gone stand (fields_in fields.now) }
 {
@@ -99,7 +100,7 @@ fn can_stand(gone: bool, stand: Stand, fields: &[&[u8]]) -> bool
     }
 }
 
-// What is wrong with an answer at this place, if anything is.
+// What is wrong with an answer, if the choice can't have it.
 fn reason_wrong(gone: bool, stand: Stand, fields: &[&[u8]]) -> Option<Wrong>
     ensures { result ≡ faults.reason_wrong gone stand (fields_in fields.now) }
 {

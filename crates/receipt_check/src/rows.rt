@@ -66,7 +66,7 @@ pub(crate) fn plain_text(alloc: Global, bytes: &[u8]) -> Result<Vec<u8>, AllocEr
     without_returns(alloc, without_mark(bytes))
 }
 
-// The pieces of a text between the bytes of this value.
+// The pieces of a text between the bytes that are equal to `mark`.
 fn pieces<'a>(alloc: Global, text: &'a [u8], mark: u8) -> Result<Vec<&'a [u8]>, AllocError>
     ensures { IfOk result (λ found. fields_in found.items ≡ form.pieces mark text.now) }
 {

@@ -1,4 +1,4 @@
-//! The first row that isn't as the receipt with this content has it.
+//! The first row that differs from the printed receipt with the same content.
 ghost use Rattle.std.specs.Prelude.{◌≡◌, ◌<◌, ◌^◌, IfOk, IfSome, length, option_map};
 ghost use Rattle.receipt_check.specs.Shape as shape;
 ghost use Rattle.receipt_check.specs.Shown.{content, fields_in, rows_in};
@@ -16,7 +16,7 @@ fn feeds(byte: u8) -> usize
     if byte == b'\n' { 1 } else { 0 }
 }
 
-// The first row, from 0, in which two texts differ, if they do.
+// The first row, counted from 0, in which two texts differ, if they do.
 fn first_unlike(text: &[u8], other: &[u8]) -> Option<usize>
     ensures row { result ≡ shape.first_unlike text.now other.now }
     ensures within { IfSome result (λ k. k < 2 ^ 63) }
@@ -98,7 +98,7 @@ fn result_wrong(
     Ok(Wrong::Result)
 }
 
-// What is wrong with a row after those of the lists.
+// What is wrong with a row after the rows of the lists.
 fn later_wrong(
     alloc: Global,
     root: Option<&[u8; 32]>,
@@ -120,7 +120,7 @@ fn later_wrong(
     }
 }
 
-// What is wrong with the first row that isn't as a receipt with this content has it.
+// What is wrong with the first row that differs from the printed receipt with this content.
 #[tactic(auto, unfolding(crate::specs::Shape::shape_wrong))]
 fn shape_wrong(
     alloc: Global,
@@ -152,7 +152,7 @@ fn shape_wrong(
     later_wrong(alloc, result_root, shown, rows, k)
 }
 
-/// The fault of the first row of a text that isn't as the receipt with this content has it.
+/// The fault of the first row of a text that differs from the printed receipt with this content.
 #[tactic(auto, unfolding(crate::specs::Shape::shape_fault))]
 pub(crate) fn shape_fault(
     alloc: Global,

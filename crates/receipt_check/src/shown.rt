@@ -1,4 +1,4 @@
-//! What a receipt tells, as it is read from its rows.
+//! The content of a receipt, as it is read from the receipt's rows.
 ghost use Rattle.std.specs.Prelude.{◌≡◌, ◌<◌, ◌+◌, ◌^◌, List, ℕ, drop, map, option_map};
 ghost use Rattle.receipt_check.specs.Receipt as receipt;
 ghost use Rattle.receipt_check.specs.Shown.{content, fields_in, rows_in};
@@ -10,7 +10,7 @@ use crate::rows::{cell, field, fields_from, is};
 /// the result.
 #[derive(Clone, Copy)]
 pub(crate) struct Shown<'r, 'a> {
-    /// Of which side the member is.
+    /// The member's side.
     pub(crate) kind: Kind,
     /// The member's name.
     pub(crate) name: &'a [u8],
@@ -38,7 +38,7 @@ pub(crate) struct Shown<'r, 'a> {
     pub(crate) after: &'r [Vec<&'a [u8]>],
 }
 
-// Of which side the member is.
+// The side of the member whose receipt has these rows.
 fn kind_in(rows: &[Vec<&[u8]>]) -> Kind
     ensures { result ≡ receipt.kind_in (rows_in rows.now) }
 {
@@ -56,8 +56,8 @@ fn has_list_in(rows: &[Vec<&[u8]>]) -> bool
     kind_in(rows).is_programme() && is(cell(rows, 4, 0), b"P")
 }
 
-/// The place of the row with the member's list. For a programme without a list it is that of the
-/// quota's row.
+/// The place of the row with the member's list. For a programme without a list it is the place of
+/// the quota's row.
 pub(crate) fn list_place(has_list: bool) -> usize
     ensures { result ≡ receipt.list_place has_list }
 {
@@ -136,7 +136,7 @@ fn rows_from<'r, 'a>(rows: &'r [Vec<&'a [u8]>], k: usize) -> &'r [Vec<&'a [u8]>]
     if k < rows.len() { &rows[k..] } else { &[] }
 }
 
-/// The content that these rows give.
+/// The content of the receipt with these rows.
 #[tactic(auto, unfolding(crate::specs::Receipt::read))]
 pub(crate) fn read<'r, 'a>(rows: &'r [Vec<&'a [u8]>]) -> Shown<'r, 'a>
     ensures { content result ≡ receipt.read (rows_in rows.now) }

@@ -21,14 +21,14 @@ pub(crate) struct Side<'r, 'a> {
     pub(crate) last: Option<usize>,
 }
 
-// The later of two places on a list, or the only one that there is.
-fn later(one: Option<usize>, other: Option<usize>) -> Option<usize>
-    ensures { result ≡ pair.later one other }
+// The later of two places on a list; if only one is given, this one.
+fn later(place: Option<usize>, other: Option<usize>) -> Option<usize>
+    ensures { result ≡ pair.later place other }
 {
-    match (one, other) {
+    match (place, other) {
         (None, other) => other,
-        (Some(one), None) => Some(one),
-        (Some(one), Some(other)) => Some(if one < other { other } else { one }),
+        (Some(place), None) => Some(place),
+        (Some(place), Some(other)) => Some(if place < other { other } else { place }),
     }
 }
 
@@ -44,8 +44,7 @@ fn place_of(shown: &Shown, list: &Texts, name: &[u8]) -> Option<usize>
     }
 }
 
-// Of the names in the rows after the first row of the result: the last place that one of them has
-// on the list.
+// The last place on the list that has one of the names in the rows after the result's first row.
 fn last_place(shown: &Shown, list: &Texts) -> Option<usize>
     requires { list.now ≡ fields_in shown.now.list.now }
     ensures last { result ≡ pair.last_place (content shown.now) }

@@ -126,7 +126,7 @@ fn put_reason(text: &mut Vec<u8>, shown: &Shown, k: usize) -> Result<(), AllocEr
     put_stop(text)
 }
 
-// Adds the words before a member's list.
+// Adds the words that stand before the names on a member's list.
 fn put_before(text: &mut Vec<u8>, kind: Kind, quota: &[u8]) -> Result<(), AllocError>
     ensures { OnOk result (Grows text.old text.new (words.lists_words kind quota.now)) }
 {
@@ -230,7 +230,7 @@ fn put_id(text: &mut Vec<u8>, id: &[u8]) -> Result<(), AllocError>
     put(text, b")")
 }
 
-// Adds the sentence on who the member with this name in the docket is.
+// Adds the sentence that says who the member with this name in the docket is.
 fn put_real(text: &mut Vec<u8>, name: &[u8], fields: &ByteRecord) -> Result<(), AllocError>
     ensures { OnOk result (Grows text.old text.new
         (words.real_words name.now (fields_of fields.now))) }

@@ -27,7 +27,7 @@ pub enum Wrong {
     /// The file is longer than any receipt.
     #[error("longer than any receipt: this file was changed by a program; ask for it again or paste the text")]
     Long,
-    /// A row, or the end of one, is missing.
+    /// A row is missing or unfinished.
     #[error("the receipt is cut off here: ask for it again")]
     Missing,
     /// The root in the row isn't the published one.
@@ -36,7 +36,7 @@ pub enum Wrong {
     /// The rows of the two roots have different numbers of members.
     #[error("another count than that of the lists")]
     Count,
-    /// The rows of the two openings have different numbers of the member.
+    /// The rows of the two openings have different members' numbers.
     #[error("another place than in the lists")]
     Place,
     /// The leaf with this salt and these rows doesn't open the root by this path.
@@ -63,17 +63,16 @@ pub enum Wrong {
     /// A name isn't on the list.
     #[error("a name that isn't on the list")]
     NotListed,
-    /// The quota is no number, or is less than the number of residents in the rows.
+    /// The quota is no number, or the receipt has more residents than the quota.
     #[error("the numbers don't fit the rows")]
     Numbers,
     /// A withdrawn member is matched.
     #[error("a result of a member who is withdrawn")]
     Gone,
-    /// The answer can't stand at this choice.
+    /// The choice can't have this answer.
     #[error("a reason that can't stand here")]
     Reason,
-    /// The answer is `full`, with numbers by which the places did not go to residents before this
-    /// one.
+    /// The answer is `full`, but by its numbers the places did not go to residents before this one.
     #[error("full, but not of residents who are ranked before")]
     Full,
     /// The receipt is a programme's, and a resident's is wanted.

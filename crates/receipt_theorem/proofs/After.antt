@@ -44,8 +44,8 @@ use Rattle.receipt_theorem.proofs.Texts.{answer_there, member_names, programme_t
 use Rattle.receipt_theorem.proofs.Values.{IsRightResident, programme_content, programme_right, resident_content, resident_right}
 use Rattle.receipt_theorem.proofs.Whole.{good_receipt}
 
--- a resident's text of a result gives one reason for each programme on the resident's list, and
--- each is the first reason that is true
+-- the text that is sealed for a resident after the match has one reason for each programme on the
+-- resident's list: the first reason that is true
 record HasReasons (d : Contents) (draft : Draft) (market : IsMarket d draft) (secret : List ℕ) (real : Real) (m : List (Option ℕ)) (r : ℕ) (text : List ℕ) : Type 0 where
   reasons : List Why
   each : length reasons ≡ length (mine d draft market secret real r)

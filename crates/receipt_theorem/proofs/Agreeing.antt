@@ -1,4 +1,5 @@
--- If the receipts of all members are good and agree, the placement that they tell is stable, or two lists of hashed bytes collide.
+-- If the receipts of all members are good and agree, the placement in the receipts is stable, or two lists of hashed
+-- bytes collide.
 use Rattle.std.proofs.Common.{◌≡◌, ◌⊎◌, ℕ, zero, suc, ◌+◌, ◌<◌, ◌≤◌, ◌^◌, ◌&&◌, Bool, true, false, List, [], length, map, nat_lt, Option, Some, None, is_some, refl, sym, ap, ◌∙◌, arith, subst, inl, inr}
 use Rattle.std.specs.Prelude.{not, slice_get, slice_index_or}
 use Rattle.std.proofs.lemmas.Bool.{cases_lt, ltb-false, not-false}
@@ -47,7 +48,7 @@ use Rattle.receipt_theorem.proofs.Shown.{few_sealed, market_of, market_of_case, 
 
 -- What is sealed.
 
--- what was sealed is made of a draft, whose docket is a market
+-- what was sealed comes from a draft and a docket without a fault
 sealed_draft : (docket : List ℕ) (sheet key : Option (List ℕ)) (secret_text : List ℕ) (s : Sealed) → IsSealed docket sheet key secret_text s
     → (draft : Draft) × IsMarket s.docket draft × (s.lists ≡ lists_texts s.docket draft s.real)
 sealed_draft docket None key secret_text s h = (draft_in docket [], market_of docket s.docket h.texts.read, h.texts.lists_are)
@@ -68,7 +69,8 @@ record IsChecked (s : Sealed) (i : ℕ) (r : Receipt) : Type 0 where
 
 -- Residents.
 
--- a resident's own programme is on the resident's list, and each answer of the receipt can stand at its place
+-- a resident's own programme is on the resident's list, and each answer of the receipt is possible for its
+-- choice
 record IsPlaced (d : Contents) (mine : List ℕ) (a : Receipt) : Type 0 where
   listed : (q : ℕ) → programme_named d a.own ≡ Some q → IsListed mine q
   stands : (k : ℕ) → k < length mine → can_stand false (stand_of (own_place mine (programme_named d a.own)) k) (answer a k) ≡ true
@@ -78,8 +80,8 @@ module _ (d : Contents) (draft : Draft) (market : IsMarket d draft) (mine : List
   abbrev count : ℕ
   count = length d.instance.quotas
 
-  -- if a resident's reasons are without fault, each answer can stand at its place, given which choice the own
-  -- programme is
+  -- if a resident's reasons have no fault, each answer is possible for its choice, given which choice the
+  -- resident's own programme is
   standing : (own : Option ℕ) → reasons_fault a own ≡ None → (k : ℕ) → k < length mine → can_stand a.gone (stand_of own k) (answer a k) ≡ true
   unfolding wrong_reason
   standing own h k l =
@@ -87,7 +89,8 @@ module _ (d : Contents) (draft : Draft) (market : IsMarket d draft) (mine : List
       let none = none_at (reason_at a own) (length a.list) k (map_none _ _ h) (omega (arith, many, l)) in
       can_stand_of a.gone (stand_of own k) (answer a k) (map_none _ _ none)
 
-  -- in a resident's receipt without a fault, the own programme is on the list, and each answer can stand at its place
+  -- in a resident's receipt without a fault, the resident's own programme is on the list, and each answer is possible
+  -- for its choice
   placed_by : (own : Option (List ℕ)) → a.own ≡ own → resident_fault a own ≡ None → IsPlaced d mine a
   placed_by None e h =
       let own : programme_named d a.own ≡ None = ap (programme_named d) e in
@@ -125,16 +128,15 @@ module _ (d : Contents) (draft : Draft) (market : IsMarket d draft) (mine : List
 
 -- Programmes.
 
--- what the receipt of programme p tells, as numbers: its list is of theirs, its quota is the docket's, and its
--- residents are xs
+-- the receipt of programme p in numbers: its list has the residents `theirs`, its quota is the docket's, and
+-- its members are the residents xs
 record HasMembers (d : Contents) (theirs : List ℕ) (p : ℕ) (b : Receipt) (xs : List ℕ) : Type 0 where
   list : b.list ≡ map (resident_name d) theirs
   quota_is : plain_number b.quota ≡ Some (quota d.instance p)
   numbers : AreOfNumbers (resident_name d) theirs (members b) xs
   filled : length b.after ≡ length xs
 
--- the residents that a programme's receipt tells are good for its quota, and a number past all programmes has no
--- residents
+-- the members in a programme's receipt fit its list and its quota; a number past all programmes has no members
 record HasSide (d : Contents) (theirs : List ℕ) (p : ℕ) (b : Receipt) : Type 0 where
   xs : List ℕ
   good : IsGoodProgramme theirs xs (quota d.instance p)
@@ -194,7 +196,8 @@ module _ (s : Sealed) (draft : Draft) (market : IsMarket s.docket draft) (lists_
             (shows_text s.secret Lists s.lists o.count o.index r.opening (lists_text r) few small o.lists));
       }
 
-  -- each of the first n receipts has the text that was sealed at its place, or hashed bytes of one of them collide
+  -- each of the first n receipts has the text that was sealed at its place, or hashed bytes collide for one of the
+  -- receipts
   decided : (n : ℕ) → n ≤ length s.lists → ((i : ℕ) → i < n → slice_get s.lists i ≡ Some (lists_text (content_of (bytes i)))) ⊎ OneCollides s bytes
   decided zero l = inl (λ i m. absurd (omega (arith, m)))
   decided (suc n) l = elim (decided n (omega (arith, l))) [
@@ -210,14 +213,14 @@ module _ (s : Sealed) (draft : Draft) (market : IsMarket s.docket draft) (lists_
 
   module _ (there : (i : ℕ) → i < length s.lists → slice_get s.lists i ≡ Some (lists_text (content_of (bytes i))))
       (agree : AllAgree (length s.lists) bytes) where
-    -- the receipt at place i has the lists of c, if c is what was sealed at place i
+    -- if c is the content that was sealed at place i, the receipt at place i has the list of c
     has_lists : (i : ℕ) (c : Receipt) → i < length s.lists → IsAt s.secret (lists_texts s.docket draft s.real) None i c
         → ListIsShown c.kind c.has_list c.list → lists_fault c ≡ None → HasListsOf (content_of (bytes i)) c
     has_lists i c l at shown right =
         same_lists (content_of (bytes i)) c (list_read (split_rows (plain_text (bytes i)))) shown (checked i l).lists right
         (same_Some _ _ (sym (there i l) ∙ ap (λ (texts : List (List ℕ)). slice_get texts i) lists_are ∙ at.listed))
 
-    -- a programme's receipt has the lists that were sealed of this programme
+    -- a programme's receipt has the name, quota and list that were sealed for this programme
     programme_has : (p : ℕ) → p < ps → HasListsOf (of_programme p) (early_programme s.docket draft market s.secret s.real keyed p)
     programme_has p l =
         let small = small_quota s.docket draft market s.secret s.real p in
@@ -234,7 +237,8 @@ module _ (s : Sealed) (draft : Draft) (market : IsMarket s.docket draft) (lists_
         (early_resident_at s.docket draft market s.secret s.real keyed r l) tt
         (rw (market.residents.named r l, right, (keyed.residents r l).right) refl)
 
-    -- the own programme and the answers in each resident's receipt can stand by the resident's list
+    -- each resident's own programme and answers, in the resident's receipt, are possible for the
+    -- resident's list
     placed : (r : ℕ) → r < rs → IsPlaced s.docket (mine r) (of_resident r)
     placed r l =
         let h = resident_has r l in
@@ -242,7 +246,7 @@ module _ (s : Sealed) (draft : Draft) (market : IsMarket s.docket draft) (lists_
         placed_by s.docket draft market (mine r) (market.resident_lists r) (of_resident r) h.list (of_resident r).own refl
         (ap (λ (kind : Kind). result_fault_of kind (of_resident r)) (sym h.kind) ∙ none)
 
-    -- the residents that each programme's receipt tells, as numbers
+    -- the members in each programme's receipt, in numbers
     side : (p : ℕ) → HasSide s.docket (theirs p) p (of_programme p)
     side p = elim (cases_lt p ps) [
       | inl l ↦
@@ -279,7 +283,7 @@ module _ (s : Sealed) (draft : Draft) (market : IsMarket s.docket draft) (lists_
 
     -- Pairs.
 
-    -- what the receipts of a resident and a programme tell of the two by names, they tell by the docket's numbers
+    -- the receipts of a resident and a programme with the docket's numbers in place of names
     pair : (r p : ℕ) → r < rs → p < ps → ArePair s.docket.instance (theirs p) (side p).xs r p (of_resident r) (of_programme p)
     pair r p l m =
         let a = resident_has r l in
@@ -306,7 +310,8 @@ module _ (s : Sealed) (draft : Draft) (market : IsMarket s.docket draft) (lists_
           filled = b.filled;
         }
 
-    -- the receipts of a resident and a programme agree about the programme's place on the resident's list
+    -- the receipts of a resident and a programme don't differ, if the resident lists the programme at
+    -- this place
     at_choice : (r p : ℕ) → r < rs → p < ps → difference_at (of_resident r) (of_programme p) (rank (mine r) p) ≡ None
     unfolding difference
     at_choice r p l m =
@@ -318,18 +323,18 @@ module _ (s : Sealed) (draft : Draft) (market : IsMarket s.docket draft) (lists_
         let none = agree (ps + r) p (omega (arith, many, l)) (omega (arith, many, m)) a.kind b.kind in
         ap (difference_at (of_resident r) (of_programme p)) (sym place_is) ∙ none
 
-    -- the number of the programme that a resident's receipt tells as its own
+    -- the number of the resident's own programme, by the resident's receipt
     abbrev own : ℕ → Option ℕ
     own r = programme_named s.docket (of_resident r).own
 
     abbrev m : List (Option ℕ)
     m = told_placement s.docket bytes
 
-    -- the placement m gives each resident the programme that the resident's receipt tells
+    -- the placement m gives each resident the own programme in the resident's receipt
     own_at : (r : ℕ) → r < rs → programme_of m r ≡ own r
     own_at r l = get_or-map-range_with_len own 0 rs r r None l (let z : 0 + r ≡ r = omega arith in z)
 
-    -- a number whose list isn't empty is that of a resident
+    -- a number whose list isn't empty is a resident's number
     has_list : (r p : ℕ) → IsListed (mine r) p → r < rs
     has_list r p on = elim (cases_lt r rs) [
       | inl l ↦ l
@@ -339,7 +344,7 @@ module _ (s : Sealed) (draft : Draft) (market : IsMarket s.docket draft) (lists_
           absurd (IsListed-nil p (subst (λ (list : List ℕ). IsListed list p) none on))
     ]
 
-    -- a programme's receipt tells no resident who doesn't list the programme
+    -- no member in a programme's receipt is a resident who doesn't list the programme
     no_member : (r p : ℕ) → (IsListed (mine r) p → ⊥) → IsListed (side p).xs r → ⊥
     no_member r p off on = elim (cases_lt p ps) [
       | inl l ↦
@@ -351,8 +356,8 @@ module _ (s : Sealed) (draft : Draft) (market : IsMarket s.docket draft) (lists_
       | inr past ↦ IsListed-nil r (subst (λ (xs : List ℕ). IsListed xs r) ((side p).none past) on)
     ]
 
-    -- each resident and programme have a reason that agrees with the programme's receipt, and that can stand in the
-    -- resident's if the resident lists the programme
+    -- for each resident and programme there is a reason that agrees with the programme's receipt; if the resident
+    -- lists the programme, the reason is possible in the resident's receipt
     reason : (r p : ℕ) → (why : Why) × (IsListed (mine r) p → CanStandFor (mine r) (programme_of m r) p why)
         × Agree s.docket.instance (mine r) (theirs p) (side p).xs r p why
     reason r p = elim (listed_cases (mine r) p) [
@@ -390,7 +395,7 @@ module _ (s : Sealed) (draft : Draft) (market : IsMarket s.docket draft) (lists_
       reasons = λ p l. (reason r p).1 l;
     }
 
-    -- the placement that the receipts tell is stable, by the law of pairs
+    -- the placement in the receipts is stable, by the law of pairs
     stable : PairsLaw → IsStable s.docket.instance m
     stable pairs =
         pairs s.docket.instance (written_of draft) m (λ p. (side p).xs) (λ r p. (reason r p).0) market.instance market.made

@@ -1,4 +1,5 @@
--- What an answer of a resident's receipt says in numbers, if it can stand there and agrees with the programme's receipt.
+-- An answer in a resident's receipt as a reason in numbers, if the answer is possible for its choice and agrees with
+-- the programme's receipt.
 use Rattle.std.proofs.Common.{◌≡◌, ℕ, ◌+◌, ◌==◌, ◌&&◌, ◌||◌, Bool, true, false, List, [], ◌∷◌, length, nat_le, nat_lt, Option, Some, None, is_some, refl, sym, ap, ◌∙◌, arith, subst, inl, inr}
 use Rattle.std.specs.Prelude.{bytes_eq, codes, not}
 use Rattle.std.proofs.lemmas.Bool.{and_parts, cases_order, eqb-true, false_from_ne_true, le-ltb, lt-ltb, ltb-true, eq-eqb, ne_eqb, not-false, not-true, or_cases, or_left, or_right}
@@ -24,17 +25,15 @@ use Rattle.receipt_theorem.proofs.Reasons.{no_number, own_place}
 
 -- Tests.
 
--- two tests of which neither is other than the other are equal
 same_test : (a b : Bool) → is_other a b ≡ false → a ≡ b
 same_test true b h = sym (not-false b h)
 same_test false b h = sym h
 
--- if the field is the number n, the number that it's compared with is there, and is n
 pub number_written : (o : Option ℕ) (n : ℕ) → is_number o n ≡ true → o ≡ Some n
 number_written None n h = cc h
 number_written (Some m) n h = ap Some (eqb-true m n h)
 
--- the first field of an answer that is a bare word is this word
+-- if an answer is this word without numbers, its first field is this word
 word_of : (word : List ℕ) (fields : Cells) → is_bare word fields ≡ true → text_at fields 0 ≡ word
 word_of word fields h =
     let size = length fields == 4 in
@@ -45,8 +44,8 @@ word_of word fields h =
     let b = and_parts (size && first && one) two c.0 in
     same_bytes (text_at fields 0) word (and_parts size first (and_parts (size && first) one b.0).0).1
 
--- if an answer's last rank comes before its rank k, so does the last resident's; and without a last resident the
--- number of places q is 0
+-- if the last rank in an answer is before rank k, the programme's last member stands before rank k; if there is
+-- no member, the number of places q is 0
 last_before : (last : Option ℕ) (digits : List ℕ) (k q : ℕ) → is_place digits last ≡ true
     → is_before (Some (k + 1)) digits (plain_number digits) (Some q) ≡ true → IsLastTold k last q
 last_before None [] k q h e = eqb-true q 0 (and_parts (q == 0) (nat_le 1 (k + 1)) (rw no_number at e)).0
@@ -58,7 +57,7 @@ last_before (Some l) digits k q h e =
 
 -- Answers.
 
--- what the receipts a of resident r and b of programme p tell of the two, in numbers
+-- the receipts a of resident r and b of programme p say the same of the two as these numbers
 pub record ArePair (inst : Instance) (theirs members : List ℕ) (r p : ℕ) (a b : Receipt) : Type 0 where
   pub gone : is_gone a b ≡ (is_withdrawn inst.residents_withdrawn r || is_withdrawn inst.programmes_withdrawn p)
   pub has_is : has b a ≡ is_listed members r
@@ -67,8 +66,8 @@ pub record ArePair (inst : Instance) (theirs members : List ℕ) (r p : ℕ) (a 
   pub quota_is : plain_number b.quota ≡ Some (quota inst p)
   pub filled : length b.after ≡ length members
 
--- an answer that begins with this word agrees with whether one has withdrawn, whether the programme lists the
--- resident, and whether it has the resident
+-- an answer with this word agrees with three facts: whether one of the two is withdrawn, whether the
+-- programme lists the resident, and whether the resident is its member
 record Says (gone listed member : Bool) (word : List ℕ) : Type 0 where
   withdrawn : bytes_eq word (codes "withdrawn") ≡ gone
   unranked : gone ≡ false → bytes_eq word (codes "unranked") ≡ not listed
@@ -85,11 +84,11 @@ module _ (inst : Instance) (mine theirs members : List ℕ) (r p : ℕ) (a b : R
   abbrev Told : List ℕ → Type 0
   Told word = Says (gone_r || gone_p) (is_listed theirs r) (is_listed members r) word
 
-  -- a reason of a given kind that agrees with the two receipts
+  -- a reason that agrees with the two receipts and has this property
   abbrev pub Reason : (Why → Type 0) → Type 0
   Reason IsSo = (why : Why) × IsSo why × Agree inst mine theirs members r p why
 
-  -- the receipts agree about the first word of the answer, and about its numbers if the word is `full`
+  -- the receipts agree about the answer's word, and about its numbers if the word is `full`
   tests : Told (text_at fields 0) × (says fields (codes "full") ≡ true → full_difference fields (rank theirs r) b ≡ None)
   tests =
       let u = says fields (codes "unranked") in
@@ -107,17 +106,17 @@ module _ (inst : Instance) (mine theirs members : List ℕ) (r p : ℕ) (a b : R
         λ f. rw f at z.1,
       )
 
-  -- the receipts agree about an answer that begins with this word
+  -- if the answer has this word, the two receipts agree about the word
   told : (word : List ℕ) → text_at fields 0 ≡ word → Told word
   told word e = subst (λ (w : List ℕ). Told w) e tests.0
 
-  -- a reason is withdrawn, unranked or matched exactly if this word is the one of that reason
+  -- the reason has this word, as far as the words `withdrawn`, `unranked` and `matched` go
   abbrev IsOf : Why → List ℕ → Type 0
   IsOf why word =
       (bytes_eq word (codes "withdrawn") ≡ true → why ≡ Withdrawn) × (bytes_eq word (codes "unranked") ≡ true → why ≡ NotRanked)
       × (bytes_eq word (codes "matched") ≡ true → why ≡ Matched)
 
-  -- a reason that fits what the programme's receipt tells agrees, if it is the one of the answer's word
+  -- a reason with the answer's word agrees with the two receipts if it fits the programme's receipt
   agree : (why : Why) (word : List ℕ) → Told word → Fits inst theirs members r p why → IsOf why word → Agree inst mine theirs members r p why
   agree why word h fits is = record {
     fits = λ l. fits;
@@ -132,7 +131,8 @@ module _ (inst : Instance) (mine theirs members : List ℕ) (r p : ℕ) (a b : R
       so (inl t) = or_left gone_r gone_p t
       so (inr t) = or_right gone_r gone_p t
 
-  -- an answer of the word `withdrawn` alone agrees as the reason of this name
+  -- if the answer is the word `withdrawn` alone, the reason `Withdrawn` agrees with the two
+  -- receipts
   withdrawn : is_bare (codes "withdrawn") fields ≡ true → Agree inst mine theirs members r p Withdrawn
   withdrawn e =
       let h = told (codes "withdrawn") (word_of (codes "withdrawn") fields e) in
@@ -154,7 +154,8 @@ module _ (inst : Instance) (mine theirs members : List ℕ) (r p : ℕ) (a b : R
       let h = told (codes "better") (word_of (codes "better") fields e) in
       agree (PrefersOwn 0 0 0) (codes "better") h tt (λ t. cc t, λ t. cc t, λ t. cc t)
 
-  -- an answer `full` agrees as a reason, with the numbers of the programme's receipt
+  -- if the answer is `full`, a reason `Full` agrees with the two receipts, with the numbers of the
+  -- programme's receipt
   full : is_full fields ≡ true → Reason IsPassed
   full e =
       let k = place theirs r in
@@ -181,7 +182,8 @@ module _ (inst : Instance) (mine theirs members : List ℕ) (r p : ℕ) (a b : R
             (λ t. cc t, λ t. cc t, λ t. cc t),
       )
 
-  -- an answer that the programme would not take the resident agrees as a reason by which the resident was passed over
+  -- if the answer is possible before the resident's own programme, some reason that is possible there agrees with the
+  -- two receipts
   passed : is_passed fields ≡ true → Reason IsPassed
   passed e = elim (or_cases (is_bare (codes "withdrawn") fields || is_bare (codes "unranked") fields) (is_full fields) e) [
     | inl bare ↦ elim (or_cases (is_bare (codes "withdrawn") fields) (is_bare (codes "unranked") fields) bare) [
@@ -191,7 +193,8 @@ module _ (inst : Instance) (mine theirs members : List ℕ) (r p : ℕ) (a b : R
     | inr z ↦ full z
   ]
 
-  -- an answer that the programme comes after the resident's own on the list agrees as a reason that says so
+  -- if the answer can follow the resident's own programme, some reason that can also follow it agrees
+  -- with the receipts
   past : is_later fields ≡ true → Reason IsPast
   past e = elim (or_cases (is_bare (codes "better") fields || is_bare (codes "unranked") fields) (is_bare (codes "withdrawn") fields) e) [
     | inl bare ↦ elim (or_cases (is_bare (codes "better") fields) (is_bare (codes "unranked") fields) bare) [
@@ -201,7 +204,8 @@ module _ (inst : Instance) (mine theirs members : List ℕ) (r p : ℕ) (a b : R
     | inr z ↦ (Withdrawn, tt, withdrawn z)
   ]
 
-  -- an answer that can stand at its place on the resident's list agrees as a reason that can stand there
+  -- if the answer is possible for its choice, some reason that is possible for this choice agrees with
+  -- the two receipts
   pub answered : (own : Option ℕ) → can_stand false (stand_of (own_place mine own) (place mine p)) fields ≡ true → Reason (CanStandFor mine own p)
   answered None e = let h = passed e in (h.0, record { at = λ f. cc f; before = λ b n. h.1; after = λ q f b. cc f }, h.2)
   answered (Some q) e = elim (cases_order (place mine p) (place mine q)) [

@@ -1,4 +1,4 @@
--- A receipt that is written has the text of its content, and is short enough.
+-- A receipt that is written is the text of its content.
 use Rattle.std.proofs.Common.{◌≡◌, ℕ, ◌+◌, ◌*◌, ◌<◌, ◌≤◌, ◌&&◌, Bool, true, false, List, [], ◌∷◌, ◌++◌, length, map, get_or, Option, Some, None, option_map, refl, sym, ap, ◌∙◌, arith, append_assoc, append-nil, subst}
 use Rattle.std.specs.Prelude.{codes, decimal, not, slice_get, slice_index_or, ⊤}
 use Rattle.std.specs.List.{All}
@@ -29,7 +29,7 @@ abbrev pub second_at : List ℕ → Option (List (List ℕ)) → ℕ → Cells
 second_at secret None i = []
 second_at secret (Some texts) i = opening_fields (salt_of secret Outcome i) (path_of i (hashes_of secret Outcome texts))
 
--- what the receipt of the member at place i tells of the trees and of the real name's row
+-- what the receipt of the member at place i has from the trees, and the row of the real name
 abbrev pub opened_at : List ℕ → List (List ℕ) → Option (List (List ℕ)) → ℕ → Cells → Opened
 opened_at secret lists results i named = record {
   count = length lists;
@@ -62,7 +62,7 @@ opened_there secret section texts i text there =
     (receipt_opens secret section texts i text there)
 
 module _ (secret : List ℕ) (lists : List (List ℕ)) (results : Option (List (List ℕ))) (i : ℕ) (c : Receipt) (at : IsAt secret lists results i c) where
-  -- what the receipt at place i tells of the trees is right, if the place is below 1000000000
+  -- what the receipt at place i has from the trees is right, if the place is below 1000000000
   pub opened_right : i < 1000000000 → AreOpened (published secret Lists lists) (option_map (published secret Outcome) results) (opened_at secret lists results i c.named) c
   opened_right small = record {
     few = at.few;

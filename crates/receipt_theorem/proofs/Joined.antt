@@ -17,7 +17,7 @@ use Rattle.receipt_check.specs.declared.wrong.Wrong.{Wrong}
 use Rattle.receipt_check.specs.declared.wrong.Wrong.TheVariants as wrong
 use Rattle.receipt_theorem.specs.Laws.{CollidesAt}
 
--- the bytes that 64 hexadecimal digits give are 32
+-- 64 hexadecimal digits stand for 32 bytes
 digest_size : (digits digest : List ℕ) → digest_of digits ≡ Some digest → length digest ≡ 32
 unfolding digest_of
 digest_size digits digest h = by_small (list_all is_small digits) h
@@ -47,7 +47,8 @@ first_digest (field ∷ rest) salt path h = by_first (digest_of field) refl h
     by_first None e k = cc k
     by_first (Some digest) e k = by_rest digest (digests_of rest) e k
 
--- the fields of an opening without a fault give a salt and a path, by which the text opens the root
+-- the fields of an opening without a fault are a salt and a path, by which the leaf with this text
+-- opens the root
 record Opens (root : List ℕ) (count index : ℕ) (fields : Cells) (text : List ℕ) : Type 0 where
   salt : List ℕ
   path : List (List ℕ)

@@ -1,4 +1,5 @@
--- What is sealed of a member before the match, and of a tree, is what a receipt with the member's content has.
+-- The text that is sealed for a member before the match, and the part of a receipt about a tree, are those of
+-- a receipt with the member's content.
 use Rattle.std.proofs.Common.{◌≡◌, ℕ, ◌+◌, ◌/◌, ◌%◌, ◌<◌, Bool, true, false, List, [], ◌∷◌, ◌++◌, length, map, Option, Some, None, is_some, option_map, unwrap_or, refl, sym, ap, ◌∙◌, append_assoc, append-nil, arith}
 use Rattle.std.specs.Prelude.{codes, decimal, ⊤, slice_index_or, slice_index}
 use Rattle.std.specs.List.{All, flat_map, list_all}
@@ -60,7 +61,8 @@ module _ (d : Contents) (draft : Draft) (names : HasPlainNames d) where
     rest (Some xs) false = ap (λ (t : List ℕ). t ++ own) (list_plain xs) ∙ ap (λ (t : List ℕ). line (codes "P" ∷ name ∷ map (resident_name d) xs) ++ t) told
     rest (Some xs) true = ap (λ (t : List ℕ). t ++ (row (codes "W" ∷ codes "P" ∷ name ∷ []) ++ own)) (list_plain xs) ∙ ap (λ (t : List ℕ). line (codes "P" ∷ name ∷ map (resident_name d) xs) ++ t) gone_plain
 
-    -- what is sealed of a programme before the match is the text of the lists in its receipt
+    -- the text that is sealed for a programme before the match is the text before the match in its
+    -- receipt
     pub programme_lists_are : quota d.instance p < 1000000000
         → programme_lists d draft real p ≡ lists_text (programme_content o name (quota d.instance p) (list_of_programme d draft p) (is_withdrawn d.instance.programmes_withdrawn p) others)
     unfolding programme_lists lists_text
@@ -70,7 +72,8 @@ module _ (d : Contents) (draft : Draft) (names : HasPlainNames d) where
         ap (λ (t : List ℕ). t ++ (line_if (option_map (list_record (codes "P") name) (list_of_programme d draft p)) ++ (withdrawal_if (is_withdrawn d.instance.programmes_withdrawn p) (codes "P") name ++ own))) first
         ∙ ap (λ (t : List ℕ). line (codes "Q" ∷ name ∷ decimal (quota d.instance p) ∷ []) ++ t) (rest (slice_index_or draft.programme_lists p None) (is_withdrawn d.instance.programmes_withdrawn p))
 
-  -- what is sealed of a resident before the match is the text of the lists in the resident's receipt
+  -- the text that is sealed for a resident before the match is the text before the match in the
+  -- resident's receipt
   pub resident_lists_are : (o : Opened) (real : Real) (r : ℕ) (own : Option (List ℕ)) (after : List Cells) → line_if (name_record (slice_index_or real.residents r None)) ≡ lines (name_rows o.named)
       → resident_lists d draft real r ≡ lists_text (resident_content o (resident_name d r) (list_of_resident d draft r) (is_withdrawn d.instance.residents_withdrawn r) own after)
   unfolding resident_lists lists_text
@@ -120,7 +123,7 @@ word_plain : (section : Section) → IsPlain (word_of section)
 word_plain Lists = refl
 word_plain Outcome = refl
 
--- the part that is written of a leaf's tree is the rows of this part in a receipt
+-- the part of a receipt about a tree, as it is written, consists of the rows of this part
 pub part_is : (secret : List ℕ) (section : Section) (texts : List (List ℕ)) (i : ℕ) → length texts < 1000000000
     → part_text secret section texts i
     ≡ lines (part_rows (word_of section) (published secret section texts) (decimal (length texts)) (decimal i) (opening_fields (salt_of secret section i) (path_of i (hashes_of secret section texts))))

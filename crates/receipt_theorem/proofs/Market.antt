@@ -68,8 +68,8 @@ resident_named n workers row none kind =
     let is : kind_of row ≡ resident_letter = eqb-true (kind_of row) resident_letter kind in
     list_row_sound n row (rw is at none)
 
--- if each record of a kind adds its second field to the declared names, and no record has a fault,
--- each declared name is a name
+-- if no record has a fault, and the records of one kind declare the names in their second fields,
+-- each declared name has the form of a name
 all_named : (P : List Fields → List (List ℕ)) (kind : ℕ)
     → ((n : ℕ) (workers : Option ℕ) (row : Fields) → row_fault n workers row ≡ None → is_kind kind row ≡ true → is_name (field row 1) ≡ true)
     → ((before : List Fields) (row : Fields) → P (before ++ row ∷ []) ≡ (if is_kind kind row then P before ++ field row 1 ∷ [] else P before))
@@ -89,7 +89,7 @@ few_rows rows none = over_records (reading_fault Standard) (λ some. length some
     more : (before : List Fields) (row : Fields) → reading_fault Standard before row ≡ None → length before ≤ most_records Standard → length (before ++ row ∷ []) ≤ most_records Standard
     more before row e h = search (rules, (own_none before row e).1, length_push before row)
 
--- of different names, the one at place i is found at place i
+-- in a list of different names, a search for the name at place i finds place i
 number_there : (names : List (List ℕ)) (i : ℕ) → distinct names ≡ true → i < length names → number_in names (get_or names i []) ≡ Some i
 unfolding distinct
 number_there [] i d l = absurd (omega (arith, l))
@@ -104,7 +104,7 @@ number_there (x ∷ xs) (suc i) d l =
     differ (y ∷ ys) zero n l = bytes_eq-swap x y (or_parts (bytes_eq x y) (list_any (bytes_eq x) ys) (off (bytes_eq x y || list_any (bytes_eq x) ys) n)).0
     differ (y ∷ ys) (suc k) n l = differ ys k (rw (or_parts (bytes_eq x y) (list_any (bytes_eq x) ys) (off (bytes_eq x y || list_any (bytes_eq x) ys) n)).1 refl) (omega (arith, l))
 
--- different names, each of which is a name, are names of the numbers below their count
+-- a list of n different names of the right form gives each number below n a name of its own
 names_of_numbers : (names : List (List ℕ)) → list_all is_name names ≡ true → distinct names ≡ true → AreNamesOf (length names) (λ k. get_or names k [])
 names_of_numbers names named apart = record {
   named = λ k l. list_all_true_at is_name names k [] l named;
@@ -135,7 +135,8 @@ written_list lists n i h = elim (cases_lt i (length (given_lists lists))) [
   | inr past ↦ rw (get_or_past (given_lists lists) i [] past) (record { below = All-nil (λ x. x < n); different = HasNoRepeats-nil })
 ]
 
--- each programme's and each resident's name is plain and short, also of a number that no member has
+-- each programme's and each resident's name is plain and short; a number that no member has counts
+-- as having an empty name
 pub record HasPlainNames (d : Contents) : Type 0 where
   pub programmes : (p : ℕ) → IsShortName (programme_name d p)
   pub residents : (r : ℕ) → IsShortName (resident_name d r)
@@ -151,8 +152,8 @@ short_names names named k = elim (cases_lt k (length names)) [
   | inr past ↦ rw (get_or_past names k [] past) (record { plain = refl; short = omega arith })
 ]
 
--- what is known of the members of a docket without a fault: their numbers are in order, their lists
--- are written ones, and their names are different and plain
+-- what is known of the members of a docket without a fault: each list has numbers of members, each
+-- once, and the names are different and plain
 pub record IsMarket (d : Contents) (draft : Draft) : Type 0 where
   pub instance : IsInstance d.instance
   pub made : AreWritten d.instance (written_of draft)

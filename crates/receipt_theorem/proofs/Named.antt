@@ -1,4 +1,4 @@
--- The row of a real name in a key that was read is as a receipt may have it, and a key gives its real names in one way.
+-- The row of a real name from a key is one that a receipt may have, and a key gives only one list of real names.
 use Rattle.std.proofs.Common.{◌≡◌, ℕ, ◌+◌, ◌<◌, ◌≤◌, ◌==◌, ◌&&◌, ◌||◌, Bool, true, false, List, [], ◌∷◌, ◌++◌, length, nat_le, nat_lt, Option, Some, None, refl, sym, ap, ◌∙◌, arith, append-nil, subst, inl, inr}
 use Rattle.std.specs.Prelude.{bytes_eq, chars, codes, find, if◌then◌else◌, not, option_map, slice_index_or}
 use Rattle.std.specs.List.{All, list_all, list_any}
@@ -129,7 +129,7 @@ abbrev pub named_cells : Option Fields → Cells
 named_cells None = []
 named_cells (Some real) = cut [] (row_body default_writer real)
 
--- the row of this real name is as a receipt may have it: of these pieces, right and clean
+-- the row of this real name is one that a receipt may have: right and clean
 pub record IsNameRow (real : Option Fields) : Type 0 where
   pub text_is : line_if (name_record real) ≡ lines (name_rows (named_cells real))
   pub right : (has_real_name (named_cells real) && not (is_real (named_cells real))) ≡ false
@@ -200,7 +200,7 @@ neither true b x y h = cc h
 neither false true x y h = cc h
 neither false false x y h = (refl, refl)
 
--- the row of a key is that of a programme or of a resident
+-- the row of a key belongs to a programme or to a resident
 abbrev IsSided : Fields → Type 0
 IsSided row = (bytes_eq (field row 0) (codes "P") || bytes_eq (field row 0) (codes "R")) ≡ true
 
@@ -261,7 +261,7 @@ of_side row c neither is = elim (cases_Bool (bytes_eq (field row 0) (codes "P") 
   | inr none ↦ (let parts = or_parts (bytes_eq (field row 0) (codes "P")) (bytes_eq (field row 0) (codes "R")) none in absurd (cc (sym is ∙ neither parts.0 parts.1)))
 ]
 
--- the row of each member's real name is as a receipt may have it
+-- the row of each member's real name is one that a receipt may have
 pub record AreNameRows (d : Contents) (real : Real) : Type 0 where
   pub programmes : (p : ℕ) → p < length d.instance.quotas → IsNameRow (slice_index_or real.programmes p None)
   pub residents : (r : ℕ) → r < length d.instance.resident_lists → IsNameRow (slice_index_or real.residents r None)

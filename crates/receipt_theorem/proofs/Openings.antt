@@ -60,8 +60,8 @@ paired [] h = h
 paired (x ∷ []) h = h
 paired (x ∷ y ∷ rest) h = All-cons IsDigest (node x y) (pair_up rest) (hash_digest _) (paired rest (All-tail IsDigest y rest (All-tail IsDigest x (y ∷ rest) h)))
 
--- if each hash is a digest, the one at place i, if there is one, before other digests makes a list
--- of digests
+-- if all hashes are digests, the hash at place i (if there is one) followed by other digests is a
+-- list of digests
 with_next : (hashes : List (List ℕ)) (i : ℕ) (rest : List (List ℕ)) → All IsDigest hashes → All IsDigest rest → All IsDigest (cons_option (slice_get hashes i) rest)
 with_next hashes i rest h all = by_next (slice_get hashes i) refl
   where

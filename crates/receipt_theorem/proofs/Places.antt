@@ -14,7 +14,7 @@ use Rattle.docket.proofs.NumberFacts.{number_in-cons}
 use Rattle.receipt_check.specs.Rows.{Cells, text_at}
 use Rattle.receipt_check.specs.Faults.{first_in, found_at, is_on, name_at, name_wrong, wrong_name}
 
--- if there is nothing at any place below n, nothing is the first there
+-- if a function is none at all places below n, it has no first value there
 pub none_in : {X : Type 0} (f : ℕ → Option X) (n : ℕ) → ((k : ℕ) → k < n → f k ≡ None) → first_in f n ≡ None
 none_in f zero h = refl
 none_in f (suc n) h = rw (none_in f n (λ k l. h k (omega (arith, l)))) (h n (omega arith))
@@ -68,7 +68,7 @@ module _ (n : ℕ) (name : ℕ → List ℕ) (are : AreNamesOf n name) where
   pub declared : (xs : List ℕ) (x : ℕ) → x < n → Below n xs → IsListed xs x → is_declared (map name xs) (name x) ≡ true
   declared xs x l b h = ap is_some (numbered xs x l b h)
 
-  -- no name is wrong among those of different numbers, each of whose names may be on the list
+  -- the names of different numbers are all right, if each name is one that may stand on the list
   pub names_right : (on : Option Cells) (xs : List ℕ) → Below n xs → HasNoRepeats xs → ((x : ℕ) → IsListed xs x → is_on on (name x) ≡ true)
       → wrong_name on (map name xs) ≡ None
   unfolding wrong_name

@@ -1,4 +1,5 @@
--- Names on lists stand for numbers: where a name stands is the rank of its number, and the last place of names is that of numbers.
+-- Lists of names stand for lists of numbers: a name's place is the rank of its number, also for the last place of
+-- several names.
 use Rattle.std.proofs.Common.{◌≡◌, ℕ, zero, suc, ◌+◌, ◌<◌, ◌≤◌, Bool, true, false, List, [], ◌∷◌, ◌++◌, length, map, take, get_or, Option, Some, None, is_some, refl, sym, ap, ◌∙◌, arith, subst, inl, inr, take_all}
 use Rattle.std.specs.Prelude.{if◌then◌else◌, not, unwrap_or}
 use Rattle.std.proofs.lemmas.Bool.{cases_Bool, cases_lt, le-ltb, lt-ltb}
@@ -28,7 +29,7 @@ use Rattle.receipt_theorem.proofs.Right.{below_of}
 pub some_rank : (xs : List ℕ) (x : ℕ) → is_some (rank xs x) ≡ is_listed xs x
 some_rank xs x = elim (cases_Bool (is_listed xs x)) [ inl t ↦ rw t refl | inr f ↦ rw f refl ]
 
--- if none of the names is wrong, each is on the list, and isn't among the names before it
+-- if no name is wrong, each name is on the list and is not among the names before it
 none_wrong : (list names : Cells) → wrong_name (Some list) names ≡ None → (k : ℕ) → k < length names
     → (is_declared list (text_at names k) ≡ true) × (is_declared (take k names) (text_at names k) ≡ false)
 unfolding wrong_name
@@ -43,7 +44,7 @@ none_wrong list names h k l =
     by true true true k = cc k
     by true true false k = (refl, refl)
 
--- the names are those of the numbers, which are all on the list and different
+-- these are the names of the numbers; the numbers are different, and all are on the list
 pub record AreOfNumbers (name : ℕ → List ℕ) (list : List ℕ) (names : Cells) (numbers : List ℕ) : Type 0 where
   pub names_are : names ≡ map name numbers
   pub listed : (x : ℕ) → IsListed numbers x → IsListed list x
@@ -79,7 +80,6 @@ module _ (n : ℕ) (name : ℕ → List ℕ) (are : AreNamesOf n name) where
             let there = get_or_from_slice_get (map name list) i text [] (number_found (map name list) text i e) in
             (IsListed-get_or list i 0 l, sym (get_or-map name list i 0 [] l) ∙ there)
 
-    -- numbers that are all on the list are below n
     pub among : (xs : List ℕ) → ((x : ℕ) → IsListed xs x → IsListed list x) → Below n xs
     among xs on k d l = below_of n list is (get_or xs k d) (on (get_or xs k d) (IsListed-get_or xs k d l))
 
@@ -114,7 +114,7 @@ module _ (n : ℕ) (name : ℕ → List ℕ) (are : AreNamesOf n name) where
         there : (k : ℕ) → k < length names → get_or xs k 0 ≡ number (text_at names k)
         there k l = get_or-map number names k [] 0 l
 
-    -- if the places of x and of the numbers xs are at most k, so is each place of these numbers with x added
+    -- if x and the numbers xs stand at places up to k, all numbers of xs with x added do
     none_later : (xs : List ℕ) (x k : ℕ) → place list x ≤ k → ((y : ℕ) → IsListed xs y → place list y ≤ k)
         → (y : ℕ) → IsListed (xs ++ x ∷ []) y → place list y ≤ k
     none_later xs x k here before y m = elim (listed_push_parts xs x y m) [
@@ -133,7 +133,8 @@ module _ (n : ℕ) (name : ℕ → List ℕ) (are : AreNamesOf n name) where
       | inr past ↦ rw (le-ltb k (place list x) past) ((h.0.0, listed_push_before xs x h.0.0 h.0.1, h.0.2), none_later xs x k past h.1)
     ]
 
-    -- the last place at which one of the first k names stands on the list is that of the first k numbers
+    -- the last place of the first k names on the list of names is the last place of the first k numbers
+    -- on the list
     last_of : (xs : List ℕ) → ((x : ℕ) → IsListed xs x → IsListed list x) → (k : ℕ) → k ≤ length xs
         → IsLastOfMembers list (take k xs) (last_within (map name list) (map name xs) k)
     unfolding last_within
@@ -149,7 +150,7 @@ module _ (n : ℕ) (name : ℕ → List ℕ) (are : AreNamesOf n name) where
         ∙ numbered n name are list x (below_of n list is x listed) is.below listed in
         rw (first, there) (later_last (take k xs) x (last_within (map name list) (map name xs) k) (last_of xs on k (omega (arith, l))))
 
-    -- the last place at which one of the names stands on the list is that of the numbers
+    -- the last place of the names on the list of names is the last place of the numbers on the list
     pub last_told : (xs : List ℕ) → ((x : ℕ) → IsListed xs x → IsListed list x)
         → IsLastOfMembers list xs (last_within (map name list) (map name xs) (length (map name xs)))
     last_told xs on =

@@ -1,4 +1,4 @@
--- The reason that is written for a choice can stand in a receipt.
+-- The reason that is written for a choice is possible for this choice.
 use Rattle.std.proofs.Common.{◌≡◌, ◌⊎◌, ℕ, zero, suc, ◌+◌, ◌<◌, ◌≤◌, ◌==◌, ◌&&◌, Bool, true, false, List, [], ◌∷◌, length, get_or, nat_lt, nat_le, Option, Some, None, refl, sym, ap, ◌∙◌, arith, subst, rules, inl, inr}
 use Rattle.std.specs.Prelude.{codes, decimal, bytes_eq, if◌then◌else◌, ⊤}
 use Rattle.std.proofs.lemmas.Bool.{cases_lt, lt-ltb, le-ltb, ne_eqb, eq-eqb}
@@ -19,8 +19,7 @@ use Rattle.receipt_theorem.proofs.Numbers.{read_back}
 abbrev pub reason_fields : Why → Cells
 reason_fields why = word why ∷ rank_field false why ∷ last_field false why ∷ quota_field why ∷ []
 
--- the three numbers of the reason `full` are small, and the place of the last resident is told as a
--- receipt tells it
+-- the three numbers of the reason `full` are small enough to be written and read back
 abbrev pub HasPlaces : ℕ → Option ℕ → ℕ → Type 0
 HasPlaces rank None quota = (quota ≡ 0) × (rank < 100000000)
 HasPlaces rank (Some last) quota = (1 ≤ quota) × (quota ≤ last + 1) × (last < rank) × (rank < 100000000)
@@ -90,8 +89,8 @@ place_there xs k once l =
       | inr past ↦ omega arith
     ]
 
--- the reason for a choice is right: it is withdrawn if the resident has withdrawn, it can stand at
--- the choice, and its numbers are small
+-- the reason for a choice is right for a receipt: it is `Withdrawn` if the resident is withdrawn,
+-- it is possible for the choice, and its numbers are small
 pub record IsRight (gone : Bool) (mine : List ℕ) (own : Option ℕ) (p : ℕ) (why : Why) : Type 0 where
   pub withdrawn : gone ≡ true → why ≡ Withdrawn
   pub stands : CanStandFor mine own p why

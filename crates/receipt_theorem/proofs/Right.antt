@@ -1,4 +1,4 @@
--- What a stable placement and its first true reasons give for receipts.
+-- A stable placement with its first true reasons is right for receipts.
 use Rattle.std.proofs.Common.{◌≡◌, ◌⊎◌, ℕ, zero, suc, ◌+◌, ◌<◌, ◌≤◌, Bool, true, false, List, [], ◌∷◌, length, Option, Some, None, refl, sym, ap, ◌∙◌, arith, subst, inl, inr}
 use Rattle.std.specs.List.{range_with_len}
 use Rattle.std.proofs.lemmas.List.FromFn.{length-range_with_len}
@@ -23,7 +23,7 @@ use Rattle.receipt_theorem.proofs.Market.{IsWrittenList}
 use Rattle.receipt_theorem.proofs.Places.{Below}
 use Rattle.receipt_theorem.proofs.Reasons.{HasPlaces, HasRoom, IsRight}
 
--- each number on a list as it was written is below the list's limit
+-- each number on a written list is below n, the number of members of the other side
 pub below_of : (n : ℕ) (xs : List ℕ) → IsWrittenList n xs → (x : ℕ) → IsListed xs x → x < n
 below_of n xs h x l = subst (λ z. z < n) (get_or-place xs x 0 l) (h.below (place xs x) 0 l)
 

@@ -48,8 +48,7 @@ second_side xs ys n r e l =
     slice_get-get_or (xs ++ ys) (n + r) [] (omega (arith, whole, e, l))
     ∙ ap Some (ap (λ k. get_or (xs ++ ys) (k + r) []) (sym e) ∙ get_or-append-add xs ys r [])
 
--- the list at a place of the given lists is the one that was given there, or an empty one if none
--- was
+-- the written list at a place is the list that was given there, or an empty list if none was given
 given_at : (lists : List (Option (List ℕ))) (p : ℕ) → list_at (given_lists lists) p ≡ unwrap_or (slice_index_or lists p None) []
 given_at lists p = elim (cases_lt p (length lists)) [
   | inl l ↦ get_or-map (λ list. unwrap_or list []) lists p None [] l

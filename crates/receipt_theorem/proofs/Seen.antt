@@ -33,15 +33,15 @@ low : (b : ℕ) → b < 128 → IsLow (b ∷ [])
 low b small zero = small
 low b small (suc i) = omega arith
 
--- one ASCII character that a real name can have is such a text
+-- one ASCII character that a real name can have is a text of such characters
 pub seen_one : (b : ℕ) → b < 128 → is_shown b ≡ true → IsSeen (b ∷ [])
 seen_one b small shown = record { utf8 = IsUtf8-from_ascii (b ∷ []) (low b small); shown = ap (list_all is_shown) (chars-IsAscii (b ∷ []) (low b small)) ∙ rw shown refl }
 
 seen_quote : IsSeen (34 ∷ [])
 seen_quote = seen_one 34 (omega arith) refl
 
--- if a text of such characters is cut at an ASCII character, both parts and the character are such
--- texts
+-- if a text of such characters is cut at an ASCII character, both parts have only such characters,
+-- and the character is one
 seen_cut : (a : List ℕ) (c : ℕ) (b : List ℕ) → c < 128 → IsSeen (a ++ c ∷ b) → IsSeen a × (is_shown c ≡ true) × IsSeen b
 seen_cut a c b small h =
     let here : get_or (a ++ c ∷ b) (length a) 0 ≡ c = (let zero : length a + 0 ≡ length a = omega arith in ap (λ k. get_or (a ++ c ∷ b) k 0) (sym zero) ∙ get_or-append-add a (c ∷ b) 0 0) in
@@ -75,7 +75,7 @@ seen_escaped before (b ∷ rest) h = by (b == 34) refl (seen_escaped [] rest) (s
         rw (e, same) (seen_both before (34 ∷ 34 ∷ escaped default_writer rest) parts.0 (seen_both (34 ∷ 34 ∷ []) (escaped default_writer rest) seen_quotes (after parts.2)))
     by false e after more = rw e (subst IsSeen (append_assoc before (b ∷ []) (escaped default_writer rest)) (more (subst IsSeen (sym (append_assoc before (b ∷ []) rest)) h)))
 
--- a text of such characters, quoted as csv writes a field, is one too
+-- a text of such characters still has only such characters when it is quoted as csv writes a field
 pub seen_field : (text : List ℕ) → IsSeen text → IsSeen (field_text default_writer text)
 seen_field text h = by (needs_quotes default_writer text)
   where
@@ -151,7 +151,7 @@ whole_piece piece free h =
     let same = encodes-chars piece h.utf8 in
     rw (is_utf8-from_IsUtf8 piece h.utf8) (no_comma (chars piece) (subst (All NoComma) (sym same) free) h.shown)
 
--- each piece between the commas of such a text can stand in a row of a receipt
+-- if `IsSeen` holds for a text, each of its pieces between commas can stand in a row of a receipt
 pub cut_pieces : (piece text : List ℕ) → All NoComma piece → IsSeen (piece ++ text) → list_all is_piece (cut piece text) ≡ true
 cut_pieces piece [] free h = rw (whole_piece piece free (subst IsSeen (append-nil piece) h)) refl
 cut_pieces piece (b ∷ rest) free h = by (b == 44) refl (cut_pieces [] rest (All-nil NoComma)) (cut_pieces (piece ++ b ∷ []) rest)

@@ -148,7 +148,7 @@ number_small digits n h = by (is_number digits) refl h
             omega (arith, same, small, most))
         by_written false q = cc q
 
--- openings without a fault tell a count and a place, and open the published roots with the texts of
+-- openings without a fault have a count and a place, and open the published roots with the texts of
 -- the receipt
 pub record HasOpenings (lists_top : List ℕ) (result_top : Option (List ℕ)) (r : Receipt) : Type 0 where
   pub count : ℕ

@@ -1,4 +1,4 @@
--- How long a receipt is at most.
+-- The greatest length of a receipt.
 use Rattle.std.proofs.Common.{◌≡◌, ℕ, zero, suc, ◌+◌, ◌*◌, ◌/◌, ◌%◌, ◌^◌, ◌<◌, ◌≤◌, List, [], ◌∷◌, ◌++◌, length, map, slice_get, Option, Some, None, refl, sym, ap, ◌∙◌, arith, rules, subst, inl, inr}
 use Rattle.std.specs.List.{All, cons_option}
 use Rattle.std.proofs.Math.Nat.{pow-suc}

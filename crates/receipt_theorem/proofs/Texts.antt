@@ -1,4 +1,5 @@
--- What is sealed of a member after the match is what a receipt with the member's content has.
+-- The text that is sealed for a member after the match is the text after the match of a receipt
+-- with the member's content.
 use Rattle.std.proofs.Common.{◌≡◌, ℕ, zero, suc, ◌+◌, ◌<◌, ◌≤◌, ◌&&◌, Bool, true, false, List, [], ◌∷◌, ◌++◌, length, map, drop, get_or, Option, Some, None, option_map, refl, sym, ap, ◌∙◌, arith, subst}
 use Rattle.std.specs.Prelude.{codes, decimal, if◌then◌else◌, ⊤}
 use Rattle.std.specs.List.{All, enumerate_from, filter, flat_map, list_all, range_with_len, zip}
@@ -76,7 +77,8 @@ module _ (d : Contents) (m : List (Option ℕ)) (names : HasPlainNames d) where
   members_text p n many =
       rw many (flat_filter (λ r. holds p (programme_of m r)) (λ r. mark_row d r (Some p)) (range_with_len 0 (length m)) ∙ member_lines p (members_of m p))
 
-  -- what is sealed of a programme after the match is the text of the result in its receipt
+  -- the text that is sealed for a programme after the match is the text after the match in its
+  -- receipt
   pub programme_text_is : (o : Opened) (p : ℕ) (list : Option Cells) (gone : Bool) → length d.instance.resident_lists ≡ length m → quota d.instance p < 1000000000 → member_count m p < 1000000000
       → programme_result d m p ≡ result_text (programme_content o (programme_name d p) (quota d.instance p) list gone (member_names d m p))
   unfolding programme_result programme_row result_text
@@ -168,8 +170,8 @@ module _ (d : Contents) (m : List (Option ℕ)) (names : HasPlainNames d) where
         let within : k < length listed = subst (λ n. k < n) many l in
         subst Fits (sym (there k within)) (omega (arith, within, few), room k within)))
 
-    -- what is sealed of a resident after the match is the text of the result in the resident's
-    -- receipt
+    -- the text that is sealed for a resident after the match is the text after the match in the
+    -- resident's receipt
     pub resident_text_is : (o : Opened) (gone : Bool) → length listed < 100000000 → ((k : ℕ) → k < length listed → HasRoom (get_or reasons k Matched))
         → resident_row d m r ++ rows_on (own_names d) false r listed reasons
         ≡ result_text (resident_content o (resident_name d r) (map (programme_name d) listed) gone (option_map (programme_name d) (programme_of m r)) (told_rows r listed reasons))

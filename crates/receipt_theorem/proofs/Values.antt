@@ -1,4 +1,4 @@
--- When nothing is wrong with the content of a receipt.
+-- Conditions under which the content of a receipt has no fault.
 use Rattle.std.proofs.Common.{◌≡◌, ℕ, zero, suc, ◌+◌, ◌<◌, ◌≤◌, ◌&&◌, Bool, true, false, List, [], ◌∷◌, length, map, nat_lt, Option, Some, None, is_some, option_map, unwrap_or, refl, sym, ap, ◌∙◌, arith, subst, rules}
 use Rattle.std.specs.Prelude.{decimal, not, if◌then◌else◌}
 use Rattle.std.proofs.lemmas.Bool.{le-ltb}
@@ -20,8 +20,8 @@ pub members_kept : (name : List ℕ) (others : Cells) → map (λ row. text_at r
 members_kept name [] = refl
 members_kept name (other ∷ rest) = ap (λ (more : Cells). other ∷ more) (members_kept name rest)
 
--- what a receipt tells of the trees and of the real name: how many leaves, the leaf's place, its
--- two openings, and the pieces of the name's row
+-- what a receipt has from the trees and from the real name: the number of leaves, the leaf's place,
+-- its two openings, and the pieces of the name's row
 pub record Opened : Type 0 where
   pub count : ℕ
   pub index : ℕ
@@ -87,7 +87,7 @@ openings_right lists_root result_root o r c i h =
     by_root None right = refl
     by_root (Some root) right = rw (right root refl) refl
 
--- what has to be true of the content of a programme's receipt beside its openings
+-- what has to be true of the content of a programme's receipt, except for its openings
 pub record IsRightProgramme (name : List ℕ) (quota : ℕ) (list : Cells) (gone : Bool) (others : Cells) : Type 0 where
   pub named : is_name name ≡ true
   pub places : quota < 1000000000
@@ -121,8 +121,8 @@ programme_right lists_root result_root o name quota list gone others opened h =
     by_result None = refl
     by_result (Some root) = rw (read_back quota h.places, enough, none_gone gone refl) told
 
--- what has to be true of the content of a resident's receipt beside its openings, if the own
--- programme is choice `own`
+-- what has to be true of the content of a resident's receipt, except for its openings, if the
+-- resident's own programme is choice `own`
 pub record IsRightResident (r : Receipt) (own : Option ℕ) : Type 0 where
   pub own_is : option_map (number_in r.list) r.own ≡ option_map Some own
   pub stays : (name : List ℕ) → r.own ≡ Some name → r.gone ≡ false

@@ -25,8 +25,8 @@ use Rattle.receipt_check.specs.declared.kind.Kind.TheVariants.{Programme, Reside
 use Rattle.docket_names.specs.Texts.{number_in}
 use Rattle.settle_law.specs.Stable.{IsStable}
 
--- What an office seals: its secret, the docket, the real names of a key, and the texts of all members before the match and,
--- if there is a sheet, after it.
+-- What an office seals: its secret, the docket, the real names of a key, the texts of all members before the match,
+-- and, if there is a sheet, their texts after it.
 pub record Sealed : Type 0 where
   pub secret : List ℕ
   pub docket : Contents
@@ -69,7 +69,8 @@ pub record IsSealed (docket : List ℕ) (sheet key : Option (List ℕ)) (secret_
   pub are_real : AreReal s.docket key s.real
   pub texts : AreTextsOf docket sheet s
 
--- of some files only one thing is sealed, so the receipts that are written belong to the roots that are written
+-- the same files always give the same sealed texts, so receipts and roots that are written for them belong
+-- together
 abbrev pub OneSealingLaw : Type 0
 OneSealingLaw =
     (docket : List ℕ) (sheet key : Option (List ℕ)) (secret_text : List ℕ) (s s' : Sealed) →
@@ -81,7 +82,7 @@ pub record WritesRoots (docket : List ℕ) (sheet key : Option (List ℕ)) (secr
   pub is_sealed : IsSealed docket sheet key secret_text s
   pub text_is : text ≡ roots_text s.secret s.lists s.results
 
--- the rows of the roots that are written are those of what is sealed of the files
+-- the rows of roots that are written are the roots of what is sealed from the files
 abbrev pub RootsLaw : Type 0
 RootsLaw =
     (docket : List ℕ) (sheet key : Option (List ℕ)) (secret_text text : List ℕ) →
@@ -103,8 +104,8 @@ GoodReceiptsLaw =
     (docket : List ℕ) (sheet key : Option (List ℕ)) (secret_text text : List ℕ) →
     IsServed Receipts docket sheet key secret_text text → WritesGoodReceipts docket sheet key secret_text text
 
--- The fields of an opening are a salt and a path. What is hashed from the leaf with this salt and this text up to the
--- published root collides with what is hashed for the tree's own leaf at this place.
+-- The fields of an opening are a salt and a path. The bytes hashed from the leaf with this salt and this text up to
+-- the published root collide with the bytes hashed for the tree's own leaf at this place.
 pub record CollidesAt (leaves : List Leaf) (count index : ℕ) (fields : Cells) (text : List ℕ) : Type 0 where
   pub salt : List ℕ
   pub path : List (List ℕ)
@@ -114,14 +115,14 @@ pub record CollidesAt (leaves : List Leaf) (count index : ℕ) (fields : Cells) 
   pub collide : Collide (sealed index count (record { salt = salt; text = text }) path top)
       (sealed_at leaves index (slice_index_or leaves index (record { salt = salt; text = text })))
 
--- The text is that sealed of the member at this place, and there are as many texts as the receipt says, or two lists
--- of hashed bytes collide.
+-- The text is the one sealed for the member at this place, and there are as many texts as the receipt says; or two
+-- lists of hashed bytes collide.
 abbrev pub IsSealedText : List ℕ → Section → List (List ℕ) → ℕ → ℕ → Cells → List ℕ → Type 0
 IsSealedText secret section texts count index fields text =
     ((count ≡ length texts) × (slice_get texts index ≡ Some text)) ⊎ CollidesAt (leaves_from secret section 0 texts) count index fields text
 
--- What a receipt shows of what was sealed. It has a member's number, and its texts are those sealed at this place, or
--- hashed bytes collide.
+-- What a receipt shows of what was sealed: it has a member's number, and its texts are those sealed for this member,
+-- or hashed bytes collide.
 pub record ShowsSealed (s : Sealed) (r : Receipt) : Type 0 where
   pub count : ℕ
   pub index : ℕ
@@ -154,7 +155,7 @@ abbrev pub programme_named : Contents → Option (List ℕ) → Option ℕ
 programme_named d None = None
 programme_named d (Some name) = number_in d.programmes name
 
--- the placement that the residents' receipts tell; a resident's number stands behind those of all programmes
+-- the placement in the residents' receipts; residents are numbered after all programmes
 abbrev pub told_placement : Contents → (ℕ → List ℕ) → List (Option ℕ)
 told_placement d bytes =
     map (λ r. programme_named d (content_of (bytes (length d.instance.quotas + r))).own) (range_with_len 0 (length d.instance.resident_lists))
@@ -166,7 +167,7 @@ pub record OneCollides (s : Sealed) (bytes : ℕ → List ℕ) : Type 0 where
   pub collides : CollidesAt (leaves_from s.secret Lists 0 s.lists) (length s.lists) index (content_of (bytes index)).opening (lists_text (content_of (bytes index)))
 
 -- Let some root of a result be published, and let each member have a receipt that is good under it and under the root
--- of the docket's lists. If the receipts of each resident and each programme agree, the placement that they tell is
+-- of the docket's lists. If the receipts of each resident and each programme agree, the placement in the receipts is
 -- stable for the docket, or two lists of hashed bytes collide.
 abbrev pub AgreeingReceiptsLaw : Type 0
 AgreeingReceiptsLaw =

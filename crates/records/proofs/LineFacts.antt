@@ -33,7 +33,7 @@ quoted_next a b c field i lt h k =
     subst (Grows a c) (quoted-step default_writer quote_mark field i lt) (grows_both a b c _ _ h k)
 
 -- a text that grew by the first i fields of a record and then by the next field grew by the first i
--- + 1
+-- + 1 fields
 pub fields_next : (a b c d : Vec ℕ) (fields : List (List ℕ)) (field : List ℕ) (i : ℕ) →
     i < length fields → Grows a b (row_body default_writer (take i fields)) → Grows b c (next_sep default_writer i)
     → Grows c d (field_text default_writer field) → field ≡ get_or fields i [] → Grows a d (row_body default_writer (take (i + 1) fields))

@@ -9,11 +9,11 @@ use Rattle.csv.proofs.WriteFacts.{quoted-step, row-step}
 use Rattle.records.specs.RowText.{row_setup, row, row_end, Adds, IsOver, Writes}
 use Rattle.records.specs.declared.writer.RowWriter.{RowWriter}
 
--- a row writer to which nothing was added has the text that it had
+-- to an unchanged row writer the empty text was added
 pub adds_none : {W : Type 0} (contents : W → Option (List ℕ)) (a : RowWriter W) → Adds contents a a []
 adds_none contents a = (refl, Appends-nil _)
 
--- a row writer to which a first text was added and then a second has both added
+-- adding a first text to a row writer and then a second text adds both together
 pub adds_both : {W : Type 0} (contents : W → Option (List ℕ)) (a b c : RowWriter W) (first second : List ℕ) → Adds contents a b first →
     Adds contents b c second → Adds contents a c (first ++ second)
 adds_both contents a b c first second h k = (k.0 ∙ h.0, Appends-trans _ _ _ _ _ h.1 k.1)
@@ -50,16 +50,16 @@ pub escaped_other : (b : ℕ) → b ≢ quote_mark → escaped row_setup (b ∷ 
 unfolding escaped
 escaped_other b n = let e = ne_eqb b quote_mark n in rw e refl
 
--- if the start of a quoted field was added to a row writer and then its next byte, one byte more of
--- this field was added
+-- adding the first bytes of a quoted field to a row writer, and then its next byte, adds one byte
+-- more of this field
 pub quoted_next : {W : Type 0} (contents : W → Option (List ℕ)) (a b c : RowWriter W) (field : List ℕ) (i : ℕ) → i < length field
     → Adds contents a b (quote_mark ∷ escaped row_setup (take i field)) → Adds contents b c (escaped row_setup (get_or field i 0 ∷ []))
     → Adds contents a c (quote_mark ∷ escaped row_setup (take (i + 1) field))
 quoted_next contents a b c field i lt h k =
     subst (Adds contents a c) (quoted-step row_setup quote_mark field i lt) (adds_both contents a b c _ _ h k)
 
--- if the first i fields of a row were added to a row writer and then the next field, the first i +
--- 1 were added
+-- adding the first i fields of a row to a row writer, and then the next field, adds the first i + 1
+-- fields
 pub fields_next : {W : Type 0} (contents : W → Option (List ℕ)) (a b c d : RowWriter W) (fields : List (List ℕ)) (field : List ℕ) (i : ℕ) →
     i < length fields → Adds contents a b (row_body row_setup (take i fields)) → Adds contents b c (next_sep row_setup i)
     → Adds contents c d (field_text row_setup field) → field ≡ get_or fields i [] → Adds contents a d (row_body row_setup (take (i + 1) fields))
@@ -67,7 +67,7 @@ fields_next contents a b c d fields field i lt h k l e =
     subst (Adds contents a d) (sym (row-step row_setup fields i lt))
     (adds_both contents a b d _ _ h (adds_both contents b c d _ _ k (rw e at l)))
 
--- if the fields of a row and then its end were added to a row writer, the row was added
+-- adding the fields of a row to a row writer, and then the row's end, adds the row
 pub row_whole : {W : Type 0} (contents : W → Option (List ℕ)) (a b c : RowWriter W) (fields : List (List ℕ)) → Adds contents a b (row_body row_setup fields)
     → Adds contents b c (row_end fields) → Adds contents a c (row fields)
 unfolding row
@@ -81,9 +81,10 @@ known_sent (Some o) (Some m) None none rows text e first second = absurd second
 known_sent (Some o) (Some m) (Some n) none rows text e first second =
     second ∙ first ∙ ap (λ (start : List ℕ). (o ++ start) ++ text) e ∙ ap (λ (start : List ℕ). start ++ text) (append-nil o)
 
--- a text was added to an empty buffer, and then the buffer was sent to the writer
+-- if a text was added to a row writer with an empty buffer, and the buffer was then sent, the
+-- writer got this text
 pub sent : {W : Type 0} (contents : W → Option (List ℕ)) (start last : RowWriter W) (lent : MutBor W) (new : W) (none text : List ℕ) → IsOver start lent none
-    → none ≡ [] → Adds contents start last text → Writes contents last.writer.now new last.waiting.now.items → Writes contents lent.now new text
+    → none ≡ [] → Adds contents start last text → Writes contents last.writer.now new last.buffer.now.items → Writes contents lent.now new text
 sent contents start last lent new none text over empty added handed =
     subst (λ w. Writes contents w new text) over.1
     (known_sent _ _ _ _ _ text (over.2 ∙ empty) added.1 handed)

@@ -1,4 +1,4 @@
--- How the known records are those that were read and those that are left.
+-- The records of a source are the records that were read, followed by the records left.
 use Rattle.std.proofs.Common.{◌≡◌, ◌∷◌, [], ℕ, List, ◌++◌, true, false, refl, sym, ap, ◌∙◌, append_assoc, append-nil, Option, Some, None}
 use Rattle.records.specs.Reading.{AreAll, Fields, GivesRow, IsSplit}
 
@@ -7,7 +7,8 @@ pub split_start : (all : Option (List Fields)) → IsSplit all [] all
 split_start None = tt
 split_start (Some rows) = (rows, refl, refl)
 
--- after one more record was read, all records are those that were read and those that are left
+-- after one more record was read, all records are still the records read, followed by the records
+-- left
 pub split_more : (all : Option (List Fields)) (done : List Fields) (left after : Option (List Fields)) (row : Fields)
     → IsSplit all done left → GivesRow left after true row → IsSplit all (done ++ row ∷ []) after
 split_more None done left after row s g = tt

@@ -11,7 +11,7 @@ use Rattle.records.specs.declared.writer.RowWriter.{RowWriter}
 abbrev pub row_setup : WriterBuilder
 row_setup = with_flexible default_writer true
 
--- the text of a row with these fields, with a line feed at the end
+-- the text of a row with these fields, including its line feed
 unfoldable pub row : List (List ℕ) → List ℕ
 row fields = row_text row_setup fields
 
@@ -20,16 +20,17 @@ row fields = row_text row_setup fields
 abbrev pub row_end : List (List ℕ) → List ℕ
 row_end fields = (if is_blank row_setup fields then quote_mark ∷ quote_mark ∷ [] else []) ++ line_feed ∷ []
 
--- all bytes of the rows: those that the writer holds, if they are known, then those that wait in the buffer
+-- all bytes of the rows: the bytes that the writer holds, if they are known, and then the bytes in the
+-- buffer
 abbrev pub held : {W : Type 0} → (W → Option (List ℕ)) → RowWriter W → Option (List ℕ)
-held contents rows = append_known (contents rows.writer.now) rows.waiting.now.items
+held contents rows = append_known (contents rows.writer.now) rows.buffer.now.items
 
--- the rows go to the borrowed writer, and exactly these bytes wait in the buffer
+-- the rows go to the borrowed writer, and the buffer has exactly these bytes
 abbrev pub IsOver : {W : Type 0} → RowWriter W → MutBor W → List ℕ → Type 0
-IsOver rows lent waiting =
-    (rows.writer.ghost_name ≡ lent.ghost_name) × (rows.writer.now ≡ lent.now) × (rows.waiting.now.items ≡ waiting)
+IsOver rows lent bytes =
+    (rows.writer.ghost_name ≡ lent.ghost_name) × (rows.writer.now ≡ lent.now) × (rows.buffer.now.items ≡ bytes)
 
--- The rows still go to the same writer. The writer's bytes, followed by the bytes that wait, grew by exactly this text.
+-- The rows still go to the same writer. The writer's bytes, followed by the buffer's bytes, grew by exactly this text.
 abbrev pub Adds : {W : Type 0} → (W → Option (List ℕ)) → RowWriter W → RowWriter W → List ℕ → Type 0
 Adds contents old new text = (new.writer.ghost_name ≡ old.writer.ghost_name) × Appends (held contents old) (held contents new) text
 

@@ -1,4 +1,4 @@
-//! Records of CSV: how they are read from a source, and how they are written, to a text or to a writer.
+//! Records of CSV: how they are read from a source, and how they are written to a text or to a writer.
 //!
 //! Only tests refuse a body that always answers out of memory, or that always answers that the reader or the writer
 //! failed.

@@ -58,14 +58,14 @@ pub fn reader_over<R: Read + Drop>(
     Ok(reader)
 }
 
-/// Reads the next record, and says whether there was a record.
+/// Reads the next record, and returns whether there was one.
 pub fn next_row<R: Read>(reader: &mut Reader<R>, row: &mut ByteRecord) -> Result<bool, ReadFailed>
     requires reading { IsSource reader.old }
     ensures reading { IfOk result (λ found. found ≡ true → IsSource reader.new) }
     ensures gives { IfOk result (λ found. GivesRow (rows_left R.remaining reader.old)
         (rows_left R.remaining reader.new) found (fields_of row.new)) }
 
-    // The same in the terms of `csv`, whether the bytes are known or not.
+    // What the read does by the contracts of `csv`, whether or not the bytes are known.
     ensures reads { IfOk result (λ found.
         ReadRecord R.remaining reader.old reader.new found (fields_of row.new)) }
 {

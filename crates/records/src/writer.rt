@@ -6,7 +6,7 @@ ghost use Rattle.records.specs.RowText.{Adds, IsOver, Writes, row_setup, row, ro
 use std::alloc::{AllocError, Global};
 use std::io::Write;
 
-// The greatest number of bytes that wait in the buffer.
+// The greatest number of bytes in the buffer.
 const ROOM: usize = 16_384;
 
 /// The writer failed.
@@ -25,7 +25,7 @@ pub fn room_for_rows(alloc: Global) -> Result<Vec<u8>, AllocError>
 #[derive(Drop)]
 pub struct RowWriter<'a, W> {
     writer: &'a mut W,
-    waiting: &'a mut Vec<u8>,
+    buffer: &'a mut Vec<u8>,
 }
 
 // Whether a field that has this byte is written between quotes.
@@ -54,29 +54,29 @@ fn is_blank(fields: &[&[u8]]) -> bool
 }
 
 impl<'a, W: Write> RowWriter<'a, W> {
-    /// A row writer over this writer and this buffer, which is emptied.
+    /// A row writer over this writer and this buffer. The buffer is emptied first.
     pub fn new(writer: &'a mut W, room: &'a mut Vec<u8>) -> RowWriter<'a, W>
         ensures { IsOver result writer.entry room.old.items }
     {
         RowWriter {
             writer,
-            waiting: room,
+            buffer: room,
         }
     }
 
-    // Sends the buffer's bytes to the writer, and then these bytes, too, if even the empty buffer is too small for
-    // them. This is a function of its own, so that only the test for room in `put` is inlined.
+    // Sends the buffer's bytes to the writer. These bytes then go into the buffer, or to the writer if they are
+    // longer than the buffer. This is a function of its own, so that only `put`'s test for room is inlined.
     #[cold]
     #[inline(never)]
     fn put_past(&mut self, bytes: &[u8]) -> Result<(), WriteFailed>
         ensures { OnOk result (Adds W.contents self.old self.new bytes.now) }
     {
-        let Ok(()) = self.writer.write_all(self.waiting.as_slice()) else {
+        let Ok(()) = self.writer.write_all(self.buffer.as_slice()) else {
             return Err(WriteFailed);
         };
-        self.waiting.clear();
-        if bytes.len() <= self.waiting.capacity() {
-            let Ok(()) = self.waiting.extend_from_slice(bytes) else {
+        self.buffer.clear();
+        if bytes.len() <= self.buffer.capacity() {
+            let Ok(()) = self.buffer.extend_from_slice(bytes) else {
                 unreachable!("there is room")
             };
             return Ok(());
@@ -87,15 +87,16 @@ impl<'a, W: Write> RowWriter<'a, W> {
         Ok(())
     }
 
-    // Adds these bytes to the buffer, whose bytes go to the writer first if there is no room.
+    // Adds these bytes to the buffer. If there is no room, the buffer's bytes go to the writer
+    // first.
     #[inline]
     fn put(&mut self, bytes: &[u8]) -> Result<(), WriteFailed>
         ensures { OnOk result (Adds W.contents self.old self.new bytes.now) }
     {
-        if bytes.len() > self.waiting.capacity() - self.waiting.len() {
+        if bytes.len() > self.buffer.capacity() - self.buffer.len() {
             return self.put_past(bytes);
         }
-        let Ok(()) = self.waiting.extend_from_slice(bytes) else {
+        let Ok(()) = self.buffer.extend_from_slice(bytes) else {
             unreachable!("there is room")
         };
         Ok(())
@@ -175,10 +176,10 @@ impl<'a, W: Write> RowWriter<'a, W> {
     /// Sends the remaining bytes of the buffer to the writer.
     pub fn send(self) -> Result<(), WriteFailed>
         ensures { OnOk result
-            (Writes W.contents self.entry.writer.now self.exit.0.now self.entry.waiting.now.items) }
+            (Writes W.contents self.entry.writer.now self.exit.0.now self.entry.buffer.now.items) }
     {
-        let RowWriter { writer, waiting } = self;
-        match writer.write_all(waiting.as_slice()) {
+        let RowWriter { writer, buffer } = self;
+        match writer.write_all(buffer.as_slice()) {
             Ok(()) => Ok(()),
             Err(_) => Err(WriteFailed),
         }

@@ -1,4 +1,4 @@
--- What an exchange gives once it has closed.
+-- The result of an exchange that has closed.
 use Rattle.std.specs.Prelude.{◌≡◌, ℕ, Option, List}
 use Rattle.match_model.specs.Instance.{Instance}
 use Rattle.exchange_core.specs.declared.event.Event.{Event}

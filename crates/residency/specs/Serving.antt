@@ -1,4 +1,4 @@
--- What a call wrote, or why it wrote nothing.
+-- What a call of the program wrote, or its fault.
 use Rattle.std.specs.Prelude.{◌≡◌, ◌≢◌, ◌⊎◌, ℕ, ◌++◌, Option, Some, None, Result, Ok, Err, List, []}
 use Rattle.std.specs.Io.KnownBytes.{Appends}
 use Rattle.exchange_core.specs.declared.event.Capacity.{Capacity}
@@ -64,26 +64,28 @@ pub record WritesMatch (d : Contents) (o : MatchOptions) (old new : Option (List
   pub run : ClosedRun d o
   pub appended : Appends old new (match_text d o.capacity o.journal run.assignment run.outcome.exchanged.journal run.by)
 
--- The rows about the docket's sheet have this status. `TellsReport` is the auditor's `WritesReport`, and `Told` is
--- its `Status`.
+-- The rows about the docket's sheet were written, with this status. `TellsReport` is the `WritesReport` of
+-- `audit_text`, and `Told` is its `Status`.
 abbrev pub WritesReport : Contents → Status → Option (List ℕ) → Option (List ℕ) → Type 0
 WritesReport d status old new = (told : Told) × (status ≡ status_told told) × TellsReport d told old new
 
--- The rows about the docket's journal have this status. `TellsReplay` is the auditor's `WritesReplay`.
+-- The rows about the docket's journal were written, with this status. `TellsReplay` is the
+-- `WritesReplay` of `audit_text`.
 abbrev pub WritesReplay : Contents → Status → Option (List ℕ) → Option (List ℕ) → Type 0
 WritesReplay d status old new = (told : Told) × (status ≡ status_told told) × TellsReplay d told old new
 
--- why a match wrote no whole sheet: memory or the writer failed after a closed run, or the run had no result
+-- why a match wrote no complete sheet: memory or the writer failed after a closed run, or the run had no
+-- result
 abbrev pub IsMatchFault : MatchOptions → Contents → ServeFault → Type 0
 IsMatchFault o d (Docket fault) = ClosedRun d o × IsWriteFault fault
 IsMatchFault o d (Run fault) = IsRunFault d.instance o.capacity o.workers fault
 IsMatchFault o d fault = ⊥
 
--- why an audit wrote no whole report; `IsReportFault` is the auditor's `IsAuditFault`
+-- why an audit wrote no complete report; `IsReportFault` is the `IsAuditFault` of `audit_text`
 abbrev pub IsAuditFault : Contents → ServeFault → Type 0
 IsAuditFault d fault = (told : AnswerFault) × (fault ≡ fault_told told) × IsReportFault d told
 
--- why a replay wrote no whole answer; `IsAnswerFault` is the auditor's `IsReplayFault`
+-- why a replay wrote no complete answer; `IsAnswerFault` is the `IsReplayFault` of `audit_text`
 abbrev pub IsReplayFault : Contents → ServeFault → Type 0
 IsReplayFault d fault = (told : AnswerFault) × (fault ≡ fault_told told) × IsAnswerFault d told
 
@@ -101,24 +103,25 @@ IsReadFault bytes (Docket fault) =
     (fault ≡ docket.Memory) ⊎ (((place : ℕ) × (fault ≡ docket.Read place)) ⊎ (first_fault bytes ≡ Some fault))
 IsReadFault bytes fault = ⊥
 
--- the fault came up in reading the bytes within the standard limits, or the bytes are a docket and this is a fault of
--- the order over it
+-- the bytes could not be read within the standard limits, with this fault; or the bytes are a docket, and this is a
+-- fault of the order over the docket
 abbrev pub IsFaultOf : (Contents → ServeFault → Type 0) → List ℕ → ServeFault → Type 0
 IsFaultOf IsFault bytes fault = IsReadFault bytes fault ⊎ AreDocket (λ d. IsFault d fault) bytes
 
--- the fault came up in reading the bytes within these limits, or the bytes are a docket and this is a fault of the order
--- over it
+-- the bytes could not be read within these limits, with this fault; or the bytes are a docket, and this is a fault of
+-- the order over the docket
 abbrev pub IsFaultWithin : Limits → (Contents → ServeFault → Type 0) → List ℕ → LimitsFault → Type 0
 IsFaultWithin limits IsFault bytes (Reading fault) =
     (fault ≡ records.Docket docket.Memory) ⊎ (((place : ℕ) × (fault ≡ records.Docket (docket.Read place))) ⊎ (fault_within limits bytes ≡ Some fault))
 IsFaultWithin limits IsFault bytes (Serving fault) = AreDocketWithin limits (λ d. IsFault d fault) bytes
 
--- a fault before which nothing was written: any fault but the writer's
+-- any fault except a failure of the writer; before such a fault nothing was written
 abbrev pub IsBeforeWriting : ServeFault → Type 0
 IsBeforeWriting (Docket fault) = fault ≢ docket.Write
 IsBeforeWriting fault = Unit {0}
 
--- a fault, of a call within limits, before which nothing was written: any fault but the writer's
+-- any fault, of a call within limits, except a failure of the writer; before such a fault nothing
+-- was written
 abbrev pub IsBeforeWritingWithin : LimitsFault → Type 0
 IsBeforeWritingWithin (Reading fault) = Unit {0}
 IsBeforeWritingWithin (Serving fault) = IsBeforeWriting fault

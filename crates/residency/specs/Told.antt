@@ -1,4 +1,4 @@
--- The outcome for a sheet or a journal, in the program's own terms.
+-- The outcome of an audit or a replay as a status or a fault of the program.
 use Rattle.audit_text.specs.declared.status.Status.{Status as Told}
 use Rattle.audit_text.specs.declared.status.Status.TheVariants as told
 use Rattle.audit_text.specs.declared.fault.AnswerFault.{AnswerFault}

@@ -1,11 +1,11 @@
-//! Why no answer was written, or only a part of the answer.
+//! Why no complete answer was written.
 
 use audit_text::AnswerFault;
 use docket::{DocketFault, RecordsFault};
 use match_pool::RunFault;
 use thiserror::Error;
 
-/// Why the answer about a docket was not written, or not all of it.
+/// Why no complete answer about a docket was written.
 #[derive(Debug, Drop, PartialEq, Eq, Error)]
 pub enum ServeFault {
     /// The docket could not be read, or the answer could not be written.
@@ -25,8 +25,8 @@ pub enum ServeFault {
     Memory,
 }
 
-/// Why the answer about a docket was not written, or not all of it, if the docket is read within
-/// limits that the caller chose.
+/// Why no complete answer about a docket was written, if the docket is read within limits that the
+/// caller chose.
 #[derive(Debug, Drop, PartialEq, Eq, Error)]
 pub enum LimitsFault {
     /// The docket could not be read within the limits.
@@ -43,8 +43,8 @@ impl From<AnswerFault> for ServeFault {
 
     ghost from_gives = { λ told fault. fault ≡ fault_told told };
 
-    fn from(told: AnswerFault) -> ServeFault {
-        match told {
+    fn from(fault: AnswerFault) -> ServeFault {
+        match fault {
             AnswerFault::Docket(fault) => ServeFault::Docket(fault),
             AnswerFault::NoSheet => ServeFault::NoSheet,
             AnswerFault::NoJournal => ServeFault::NoJournal,

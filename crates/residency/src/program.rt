@@ -18,22 +18,22 @@ use std::random::RandomSource;
 use std::sync::Wait;
 use std::thread::Threads;
 
-// Writes why there is no answer, or only a part of one. The text names these limits. No exit status depends on
-// whether this text could be written.
-fn tell<T: Eprint>(told: &T, limits: Limits, fault: &LimitsFault) {
+// Writes why there is no complete answer. The text names these limits. No exit status depends on whether this
+// text could be written.
+fn tell<T: Eprint>(console: &T, limits: Limits, fault: &LimitsFault) {
     let _ = match fault {
-        LimitsFault::Reading(fault) => eprintln!(told; "residency: {}", fault.within(limits)),
-        LimitsFault::Serving(fault) => eprintln!(told; "residency: {fault}"),
+        LimitsFault::Reading(fault) => eprintln!(console; "residency: {}", fault.within(limits)),
+        LimitsFault::Serving(fault) => eprintln!(console; "residency: {fault}"),
     };
 }
 
-// Does what the command line asks within these limits, or writes why there is no answer.
+// Does what the command line asks within these limits, or writes why there is no complete answer.
 fn serve_and_tell<R, W, T, H>(
     rt: H,
     alloc: Global,
     limits: Limits,
     order: &Order,
-    told: &T,
+    console: &T,
     reader: R,
     writer: &mut W,
 ) -> ExitCode
@@ -47,7 +47,7 @@ where
 {
     let answer = serve_within(rt, alloc, limits, order, reader, writer, &OpenGate);
     if let Err(fault) = &answer {
-        tell(told, limits, fault);
+        tell(console, limits, fault);
     }
     ExitCode::from(exit_status_within(&answer))
 }
@@ -63,7 +63,7 @@ pub fn serve_words<R, W, T, H>(
     words: io::Result<Vec<String>>,
     reader: R,
     writer: &mut W,
-    told: &T,
+    console: &T,
 ) -> ExitCode
 where
     R: Read + Drop,
@@ -73,7 +73,7 @@ where
     ensures { Ends words (R.remaining reader)
         (W.contents writer.old) (W.contents writer.new) (exit_status_in result) }
 {
-    serve_words_within(rt, alloc, Limits::Standard, words, reader, writer, told)
+    serve_words_within(rt, alloc, Limits::Standard, words, reader, writer, console)
 }
 
 /// Does what `serve_words` does, but within these limits.
@@ -84,7 +84,7 @@ pub fn serve_words_within<R, W, T, H>(
     words: io::Result<Vec<String>>,
     reader: R,
     writer: &mut W,
-    told: &T,
+    console: &T,
 ) -> ExitCode
 where
     R: Read + Drop,
@@ -96,10 +96,10 @@ where
 {
     let texts = match texts_of(words) {
         Ok(texts) => texts,
-        Err(fault) => return refuse(told, &fault),
+        Err(fault) => return refuse(console, &fault),
     };
     match read_line(alloc, texts.as_slice()) {
-        Ok(order) => serve_and_tell(rt, alloc, limits, &order, told, reader, writer),
-        Err(fault) => refuse(told, &UsageFault::Line(fault)),
+        Ok(order) => serve_and_tell(rt, alloc, limits, &order, console, reader, writer),
+        Err(fault) => refuse(console, &UsageFault::Line(fault)),
     }
 }

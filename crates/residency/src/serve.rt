@@ -96,7 +96,7 @@ where
 {
     law_one_settled();
     let inst = docket.instance();
-    // Only the proof needs this call: by its clause the rankings of an instance are mutual and within the limits.
+    // For the proof alone: the rankings of an instance are mutual and within the limits.
     let _instance = inst.residents();
     let done = match run(rt, alloc, inst, options.capacity, options.workers, gate) {
         Ok(done) => done,
@@ -137,7 +137,7 @@ fn write_audit<W: Write>(
     ensures before { IfErr result (λ fault. IsBeforeWriting fault → writer.new ≡ writer.old) }
 {
     match audit_docket(alloc, docket, writer) {
-        Ok(told) => Ok(Status::from(told)),
+        Ok(status) => Ok(Status::from(status)),
         Err(fault) => Err(ServeFault::from(fault)),
     }
 }
@@ -155,13 +155,13 @@ fn write_answer<W: Write>(
     ensures before { IfErr result (λ fault. IsBeforeWriting fault → writer.new ≡ writer.old) }
 {
     match replay_docket(alloc, docket, writer) {
-        Ok(told) => Ok(Status::from(told)),
+        Ok(status) => Ok(Status::from(status)),
         Err(fault) => Err(ServeFault::from(fault)),
     }
 }
 
 /// Reads a docket within the standard limits, runs its exchange to the close by threads, and writes its sheet. If the
-/// options ask for the journal, the journal of this very run follows. The gate never stops a run.
+/// options ask for the journal, the journal of this run follows. The gate never stops a run.
 ///
 /// A sheet or a journal in the docket is read and must be well formed, but is not used. No byte is written before the
 /// exchange has closed.
@@ -265,7 +265,7 @@ where
     }
 }
 
-// What is done with the memory that an order took.
+// What happens to the memory that an order took.
 fn spent_by(order: &Order) -> Spent {
     match order {
         Order::Match(_) => Spent::LeftToTheSystem,
@@ -273,9 +273,9 @@ fn spent_by(order: &Order) -> Spent {
     }
 }
 
-/// Does what a command line asks, within these limits, for a program that ends right afterwards. A match leaves its memory
-/// to the operating system instead of freeing it piece by piece, since that is faster. The gate never stops a run.
-// Its frame holds the reader's buffers: inlined they would stand on the stack of all that comes after.
+/// Does what a command line asks, within these limits, for a program that ends right afterwards. A match leaves its
+/// memory to the operating system instead of freeing it piece by piece, since that is faster. The gate never stops a
+/// run. The reader's buffers in its frame would stay on the stack if the function were inlined.
 #[inline(never)]
 pub fn serve_within<R, W, G, H>(
     rt: H,

@@ -2,8 +2,8 @@
 
 use std::mem;
 
-/// What happens to used memory: it is freed piece by piece, or a program that is about to end leaves it to the
-/// operating system.
+/// What happens to memory that is no longer needed: it is freed piece by piece, or a program that is about to
+/// end leaves it to the operating system.
 #[derive(Clone, Copy, Debug)]
 pub(crate) enum Spent {
     GivenBack,

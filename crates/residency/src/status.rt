@@ -25,8 +25,8 @@ impl From<audit_text::Status> for Status {
 
     ghost from_gives = { λ told status. status ≡ status_told told };
 
-    fn from(told: audit_text::Status) -> Status {
-        match told {
+    fn from(status: audit_text::Status) -> Status {
+        match status {
             audit_text::Status::Stable => Status::Stable,
             audit_text::Status::Unstable => Status::Unstable,
             audit_text::Status::ReplayGood => Status::ReplayGood,

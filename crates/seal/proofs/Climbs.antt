@@ -8,8 +8,8 @@ use Rattle.seal.specs.Tree.{pair_up, levels_up, top, Left, Right, side, sides_fr
 use Rattle.seal.specs.SealLaws.{CompleteLaw}
 use Rattle.seal.proofs.Parents.{twice, twice_is, length-pair_up, parent_of_pair, parent_of_last}
 
--- the parent of the node at place i stands at half this place; it is a hash over the node and its sibling, or the node
--- itself
+-- the parent of the node at place i stands at half this place; the parent is the hash over the node and its sibling,
+-- or the node itself if it has no sibling
 data Parent (hs : List (List ℕ)) (i : ℕ) (h : List ℕ) : Type 0 where
   on_left : (l : List ℕ) → side i (length hs) ≡ Some Left → sibling i hs ≡ Some l → slice_get (pair_up hs) (i / 2) ≡ Some (node l h) → Parent hs i h
   on_right : (r : List ℕ) → side i (length hs) ≡ Some Right → sibling i hs ≡ Some r → slice_get (pair_up hs) (i / 2) ≡ Some (node h r) → Parent hs i h

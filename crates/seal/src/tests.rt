@@ -7,8 +7,8 @@ use std::alloc::Global;
 use std::process::Abort;
 use std::test::Fail;
 
-// The leaves of Certificate Transparency's test vectors. With each leaf stands the root of the tree of all leaves
-// before this one.
+// The leaves of Certificate Transparency's test vectors. Beside each leaf stands the root of the tree of all
+// earlier leaves.
 const PUBLISHED: [(&[u8], &str); 9] = [
     (
         b"",
@@ -48,7 +48,7 @@ const PUBLISHED: [(&[u8], &str); 9] = [
     ),
 ];
 
-// The root of the leaves "0", "1" and so on up to "999", by the recursion of RFC 9162.
+// The root of the leaves "0" to "999", by the recursion of RFC 9162.
 const OF_A_THOUSAND: &str = "638afa98022925bacfddadb15ef22fd0199c1ac99c2973b6158243d13fce05c2";
 
 // The sealed texts of the members of examples/nrmp.csv: before the match, and after the match with
@@ -110,20 +110,22 @@ fn opens_each<R: Abort>(
     hashes: &[[u8; 32]],
     wanted: &str,
 ) -> Result<(), Fail> {
-    let top = root(alloc, hashes)?;
-    assert_eq!(rt; shown(alloc, &top)?.as_str(), wanted);
-    let sealed = published(hashes.len() as u64, &top);
+    let root_hash = root(alloc, hashes)?;
+    assert_eq!(rt; shown(alloc, &root_hash)?.as_str(), wanted);
+    let published_root = published(hashes.len() as u64, &root_hash);
     let tree = Tree::new(alloc, hashes)?;
-    assert_eq!(rt; tree.root(), top);
+    assert_eq!(rt; tree.root(), root_hash);
     for (index, hash) in hashes.iter().enumerate() {
         let mut path = tree.opening(alloc, index)?;
-        assert!(rt; opens(&sealed, hashes.len(), index, hash, &path));
-        assert!(rt; !opens(&sealed, hashes.len(), index + 1, hash, &path));
-        assert!(rt; !opens(&sealed, hashes.len(), index, &top, &path) || hashes.len() == 1);
-        path.push(top)?;
-        assert!(rt; !opens(&sealed, hashes.len(), index, hash, &path));
+        assert!(rt; opens(&published_root, hashes.len(), index, hash, &path));
+        assert!(rt; !opens(&published_root, hashes.len(), index + 1, hash, &path));
+        assert!(rt;
+            !opens(&published_root, hashes.len(), index, &root_hash, &path) || hashes.len() == 1
+        );
+        path.push(root_hash)?;
+        assert!(rt; !opens(&published_root, hashes.len(), index, hash, &path));
         if path.len() > 1 {
-            assert!(rt; !opens(&sealed, hashes.len(), index, hash, &path[1..]));
+            assert!(rt; !opens(&published_root, hashes.len(), index, hash, &path[1..]));
         }
     }
     Ok(())
@@ -169,9 +171,9 @@ fn a_docket_is_sealed(rt: HostRuntime) -> Result<(), Fail> {
         &results,
         "c52943499363d152fc194eee6eff38789f5bb3126601424c8b1a63043ae278b0",
     )?;
-    let own = shown(rt.alloc(), &salt(&secret, b'L', 4))?;
+    let salt_4 = shown(rt.alloc(), &salt(&secret, b'L', 4))?;
     assert_eq!(rt;
-        own.as_str(),
+        salt_4.as_str(),
         "9191b951097bbfa6354e1af753473f616daad352c00c681dd5c7b0de245ef9dc"
     );
     Ok(())

@@ -31,8 +31,8 @@ pub no_hashes : (secret : List ℕ) (section : Section) → hashes_of secret sec
 unfolding leaves_from
 no_hashes secret section = refl
 
--- the hashes of the leaves of the first i + 1 texts are those of the first i and the hash of the
--- next text's leaf
+-- the hashes of the leaves of the first i + 1 texts are the hashes for the first i texts, followed
+-- by the hash of text i's leaf
 pub hashes_next : (secret : List ℕ) (section : Section) (texts : List (List ℕ)) (i : ℕ) → i < length texts →
     hashes_of secret section (take (i + 1) texts) ≡ hashes_of secret section (take i texts) ++ leaf_hash (leaf_of secret section i (get_or texts i [])) ∷ []
 hashes_next secret section texts i within =
@@ -43,8 +43,8 @@ hashes_next secret section texts i within =
     ∙ ap (λ (t : List Leaf). leaves_from secret section 0 (take i texts) ++ t) (no_leaf_more secret section i text))
     ∙ map-append leaf_hash (leaves_from secret section 0 (take i texts)) (leaf_of secret section i text ∷ [])
 
--- if the hash of the leaf of text i was added to the hashes of the first i texts, there are the
--- hashes of the first i + 1
+-- adding the hash of text i's leaf to the hashes for the first i texts gives the hashes for the
+-- first i + 1
 pub hash_pushed : (secret : List ℕ) (section : Section) (texts : List (List ℕ)) (i : ℕ) (hash salt text : List ℕ) (old new : List (List ℕ)) → i < length texts
     → old ≡ hashes_of secret section (take i texts) → new ≡ old ++ hash ∷ [] → hash ≡ leaf_hash (record { salt = salt; text = text }) → salt ≡ salt_of secret section i
     → text ≡ get_or texts i [] → new ≡ hashes_of secret section (take (i + 1) texts)

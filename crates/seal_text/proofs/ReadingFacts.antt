@@ -1,4 +1,4 @@
--- What the reading of a docket's and a sheet's file gives.
+-- The result of reading a docket's and a sheet's file.
 use Rattle.std.proofs.Common.{◌≡◌, ℕ, List, [], Option, Some, refl, ◌∙◌, inl, inr}
 use Rattle.std.specs.Prelude.{unwrap_or}
 use Rattle.docket.specs.Contents.{Contents}
@@ -23,15 +23,15 @@ pub case_read : (d s : List ℕ) (contents : Contents) (written : Written) (c : 
     → c.docket ≡ contents → c.written ≡ written → c.docket.sheet ≡ Some c.sheet → IsCaseIn d s c
 case_read d s contents written c h same lists has = record { read = rw (same, lists) h; has_sheet = has }
 
--- that memory runs out is a fault that reading any files may have
+-- out of memory is a fault that reading any files may have
 pub reading_memory : (d s j : List ℕ) → IsReadingFault d s j files.Memory
 reading_memory d s j = record { first = record { file = part.Docket; fault = records.Docket docket.Memory }; is_first = inl (inl refl); is_told = refl }
 
 pub no_memory : (d s : List ℕ) → IsCaseFault d s files.Memory
 no_memory d s = inl (reading_memory d s [])
 
--- why a key gives no real names is why neither the files with this key nor a case in them can be
--- sealed
+-- if a key gives no real names for some reason, the files with this key, and a case in these files,
+-- can't be sealed for the same reason
 pub key_unmade : (wanted : Wanted) (docket : List ℕ) (sheet key : Option (List ℕ)) (d : Contents) (fault : SealFault) → IsDocketIn docket (unwrap_or sheet []) [] d
     → IsOfKey key (IsNamesFault d) fault → IsUnmade wanted docket sheet key fault
 key_unmade wanted docket sheet key d (seal.Secret fault) read h = h
@@ -45,7 +45,8 @@ key_untold wanted c key (seal.Files fault) h = absurd h
 key_untold wanted c key (seal.Key fault) h = h
 key_untold wanted c key seal.Unstable h = absurd h
 
--- what can't be told of a case in some files can't be made of these files
+-- if there is no text for a case in some files, there is no text for these files, for the same
+-- reason
 pub case_unmade : (wanted : Wanted) (docket sheet : List ℕ) (key : Option (List ℕ)) (c : CaseParts) (fault : SealFault) → IsCaseIn docket sheet c → IsUntold wanted c key fault
     → IsUnmade wanted docket (Some sheet) key fault
 case_unmade wanted docket sheet key c (seal.Secret fault) read h = h
@@ -53,7 +54,7 @@ case_unmade wanted docket sheet key c (seal.Files fault) read h = rw h (no_memor
 case_unmade wanted docket sheet key c (seal.Key fault) read h = record { d = c.docket; read = read.read.docket_is; is_fault = h }
 case_unmade wanted docket sheet key c seal.Unstable read h = record { c = c; read = read; untold = h }
 
--- what can't be made of some files can't be written either, for the same reason
+-- if there is no text for some files, nothing is written for them, for the same reason
 pub unwritten : (wanted : Wanted) (docket : List ℕ) (sheet key : Option (List ℕ)) (secret : List ℕ) (fault : SealFault) → IsUnmade wanted docket sheet key fault
     → IsSealFault wanted docket sheet key secret fault
 unwritten wanted docket sheet key secret (seal.Secret fault) h = absurd h

@@ -1,4 +1,4 @@
--- Records that grow field by field, and members whose names they have.
+-- Records that grow field by field, by the names of members.
 use Rattle.std.proofs.Common.{◌≡◌, ◌<◌, ◌≤◌, ◌+◌, ℕ, zero, suc, List, [], ◌∷◌, ◌++◌, Bool, true, length, map, take, get_or, refl, sym, ap, ◌∙◌, arith, append_assoc, append-nil, rules, take_all}
 use Rattle.std.specs.Prelude.{IfSome, None, Option, Some, nat_lt, slice_get}
 use Rattle.std.specs.List.{list_all}
@@ -12,7 +12,7 @@ use Rattle.seal_text.specs.Texts.{Extends}
 pub extends_none : (a : Row) → partial_of a ≡ [] → Extends a a []
 extends_none a whole = record { added = sym (append-nil (fields_of a)); whole = whole }
 
--- if the first k fields were added to a record, and then the next, the first k + 1 were added
+-- adding the first k fields to a record, and then the next field, adds the first k + 1
 pub extends_more : (fields : Fields) (k : ℕ) (a b c : Row) (text : List ℕ) → k < length fields → Extends a b (take k fields) → text ≡ get_or fields k [] → Extends b c (text ∷ [])
     → Extends a c (take (k + 1) fields)
 extends_more fields k a b c text within h is more = record {
@@ -22,21 +22,21 @@ extends_more fields k a b c text within h is more = record {
   whole = more.whole;
 }
 
--- if the first k fields were added to a record, and there are at most k, all were added
+-- if there are at most k fields, adding the first k fields to a record adds all fields
 pub extends_all : (fields : Fields) (k : ℕ) (a b : Row) → length fields ≤ k → Extends a b (take k fields) → Extends a b fields
 extends_all fields k a b past h = rw (take_all k fields past) at h
 
--- the name at place k of the members' names is that of the member at place k
+-- item k of the members' names is the name of member k of the list
 pub name_there : (name : ℕ → List ℕ) (members : List ℕ) (k : ℕ) (text : List ℕ) → k < length members → text ≡ name (get_or members k 0) → text ≡ get_or (map name members) k []
 name_there name members k text within is = is ∙ sym (get_or-map name members k 0 [] within)
 
--- if all numbers on a list are below a count, the one at place k is
+-- if all numbers on a list are below a count, the number at place k is
 pub one_below : (count : ℕ) (members : List ℕ) (k : ℕ) → list_all (λ m. nat_lt m count) members ≡ true → k < length members → get_or members k 0 < count
 one_below count [] k all within = absurd (omega (arith, within))
 one_below count (m ∷ members) zero all within = search (rules, (and_parts (nat_lt m count) _ all).0)
 one_below count (m ∷ members) (suc k) all within = one_below count members k (and_parts (nat_lt m count) _ all).1 (omega (arith, within))
 
--- the number found at place k of a list is the one at place k
+-- the number that a look-up at place k of a list finds is the number at place k
 pub chosen : (members : List ℕ) (k m : ℕ) → slice_get members k ≡ Some m → m ≡ get_or members k 0
 chosen [] k m e = absurd (cc e)
 chosen (x ∷ members) zero m e = let same : x ≡ m = cc e in sym same
@@ -47,7 +47,6 @@ item_there [] k m within e = absurd (omega (arith, within))
 item_there (x ∷ members) zero m within e = e
 item_there (x ∷ members) (suc k) m within e = item_there members k m (omega (arith, within)) e
 
--- what is true of each list that an option can be is true of the list that it is
 pub if_some : (o : Option (List ℕ)) (P : List ℕ → Type 0) → ((list : List ℕ) → o ≡ Some list → P list) → IfSome o P
 if_some None P h = tt
 if_some (Some list) P h = h list refl

@@ -35,17 +35,17 @@ results_counted c texts h =
     let r = h.are.each in
     sym (length-map texts (λ (text : Vec ℕ). text.items)) ∙ ap (λ (t : List (List ℕ)). length t) h.texts_are ∙ length-append P h.residents ∙ omega (arith, p, r)
 
--- if there are texts, and they are m, they are also n, if n is m
+-- if the number of texts is m, and n is m, the number of texts is n
 pub counted_too : (texts : Option (Vec (Vec ℕ))) (m n : ℕ) → n ≡ m → IfSome texts (λ (t : Vec (Vec ℕ)). length t.items ≡ m) → IfSome texts (λ (t : Vec (Vec ℕ)). length t.items ≡ n)
 counted_too texts m n e h = let P : ℕ → Type 0 = λ k. IfSome texts (λ (t : Vec (Vec ℕ)). length t.items ≡ k) in subst P (sym e) h
 
--- if a text was added to an empty one, what there is now is the text that is wanted
+-- if the wanted text was added to an empty text, the result is the wanted text
 pub wanted_made : (wanted : Wanted) (secret : List ℕ) (d : Contents) (lists lists' : List (List ℕ)) (results results' : Option (List (List ℕ))) (old new : List ℕ)
     → old ≡ [] → new ≡ old ++ text_of wanted secret d lists results → lists ≡ lists' → results ≡ results' → new ≡ text_of wanted secret d lists' results'
 wanted_made wanted secret d lists lists' results results' old new o n l r = n ∙ rw (o, l, r) refl
 
--- if a docket is whole and has a sheet, the sheet has one entry for each resident, and names its
--- programmes only
+-- if a docket is whole and has a sheet, the sheet has one entry for each resident, and only
+-- programmes of the docket
 pub has_sheet : (c : CaseParts) → c.docket.sheet ≡ Some c.sheet → IsWhole c.docket → HasSheet c
 has_sheet c has whole = record { whole = whole; sheet_of = whole.sheet c.sheet has }
 

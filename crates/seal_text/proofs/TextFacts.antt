@@ -1,4 +1,4 @@
--- What is handed to a writer, and what residents are told after the match.
+-- Texts that are handed to a writer, and the texts that are sealed for members.
 use Rattle.std.proofs.Common.{◌≡◌, ℕ, ◌+◌, ◌<◌, Bool, List, [], ◌∷◌, ◌++◌, Option, Some, false, length, get_or, set, refl, sym, ap, ◌∙◌, subst, inl, inr, append_assoc, append-nil, zero-add, arith, rules}
 use Rattle.std.specs.Prelude.{None, codes, map, option_map, slice_get, slice_index_or}
 use Rattle.std.specs.Global.{Vec}
@@ -26,10 +26,10 @@ use Rattle.reasons_text.specs.Answers.{CaseParts}
 use Rattle.reasons_text.specs.RealNames.{Real}
 use Rattle.seal_text.specs.Texts.{IsResidentResult, PushesResults, line_if, list_record, name_record, member_row, member_rows, programme_lists, programme_result, quota_row, resident_lists, withdrawal_if}
 
--- if a text was added to no rows that waited, and then all that waited was handed to the writer, this
--- text was handed over
+-- if a text was added to an empty buffer, and the buffer was then sent to the writer, the writer got
+-- this text
 pub handed_over : {W : Type 0} (contents : W → Option (List ℕ)) (start last : RowWriter W) (old new : W) (none text : List ℕ) → start.writer.now ≡ old →
-    start.waiting.now.items ≡ none → none ≡ [] → Adds contents start last text → Writes contents last.writer.now new last.waiting.now.items
+    start.buffer.now.items ≡ none → none ≡ [] → Adds contents start last text → Writes contents last.writer.now new last.buffer.now.items
     → Appends (contents old) (contents new) text
 handed_over contents start last old new none text over holds empty added handed =
     sent contents start last (record { ref_ptr = start.writer.ref_ptr; ghost_name = start.writer.ghost_name; now = old }) new none text (refl, over, holds) empty
@@ -42,8 +42,8 @@ results_none c texts = record { texts = []; are = record { each = refl; are = no
     nothing : (r : ℕ) (text : List ℕ) → slice_get [] r ≡ Some text → IsResidentResult c r text
     nothing r text at = search rules
 
--- if the texts of the first n residents' results were pushed, then resident n's, those of the first n +
--- 1 were pushed
+-- pushing the result texts of the first n residents, and then that of resident n, pushes those of the
+-- first n + 1
 pub results_more : (c : CaseParts) (n : ℕ) (old mid new : List (List ℕ)) (t : List ℕ) → PushesResults c n old mid → IsResidentResult c n t → new ≡ mid ++ t ∷ []
     → PushesResults c (n + 1) old new
 results_more c n old mid new t h is more = record {
@@ -60,8 +60,8 @@ results_more c n old mid new t h is more = record {
           subst (λ (v : List ℕ). IsResidentResult c r v) same (subst (λ q. IsResidentResult c q t) here is)
     ]
 
--- the texts of the programmes' results so far: each has the programme's row and the rows of those of
--- the first n residents whom it has
+-- the programmes' result texts after the first n residents: each has the programme's row, and the
+-- rows of its members among these residents
 pub record AreSoFar (d : Contents) (m : List (Option ℕ)) (n : ℕ) (texts : List (List ℕ)) : Type 0 where
   pub each : length texts ≡ length d.instance.quotas
   pub are : (p : ℕ) → p < length d.instance.quotas → get_or texts p [] ≡ filled_row d m p ++ member_rows d m p n
@@ -86,8 +86,8 @@ with_nobody d m n texts none h = record {
   are = λ p within. stays d m p n (get_or texts p []) (ap (holds p) none) (h.are p within);
 }
 
--- if resident n has programme q, the texts with q's text grown by the resident's row have the rows of
--- the first n + 1
+-- if resident n has programme q, adding the resident's row to q's text makes the texts right for the
+-- first n + 1 residents
 pub with_member : (d : Contents) (m : List (Option ℕ)) (n q : ℕ) (texts : List (List ℕ)) (text : List ℕ) → q < length d.instance.quotas → programme_of m n ≡ Some q
     → text ≡ get_or texts q [] ++ mark_row d n (Some q) → AreSoFar d m n texts → AreSoFar d m (n + 1) (set texts q text)
 with_member d m n q texts text within has grew h = record {
@@ -115,7 +115,8 @@ unfolding programme_result
 are_all d m n texts all h =
     fill_by_all (programme_result d m) texts (length d.instance.quotas) [] h.each (λ p within. h.are p within ∙ ap (λ k. filled_row d m p ++ member_rows d m p k) all)
 
--- what is sealed of a programme before the match: its row, its record, its withdrawal and its real name
+-- the text sealed for a programme before the match: its quota's row, its list, its withdrawal and its
+-- real name, one after another
 pub programme_made : (d : Contents) (draft : Draft) (real : Real) (p : ℕ) (a b c e f : Vec ℕ) (name : List ℕ) (places : ℕ) (list : Option (List ℕ)) (gone : Bool) (own : Option Fields)
     → a.items ≡ [] → name ≡ programme_name d p → places ≡ quota d.instance p → list ≡ slice_index_or draft.programme_lists p None → gone ≡ is_withdrawn d.instance.programmes_withdrawn p
     → own ≡ slice_index_or real.programmes p None
@@ -125,7 +126,8 @@ unfolding programme_lists
 programme_made d draft real p a b c e f name places list gone own none n q li g o h k l m =
     grows_both a b f _ _ h (grows_three b c e f _ _ _ k l m) ∙ rw (none, n, q, li, g, o) refl
 
--- what is sealed of a resident before the match: its record, its withdrawal and its real name
+-- the text sealed for a resident before the match: its list, its withdrawal and its real name, one
+-- after another
 pub resident_made : (d : Contents) (draft : Draft) (real : Real) (r : ℕ) (a b c e : Vec ℕ) (name : List ℕ) (two fields : Fields) (lists : List (List ℕ)) (gone : Bool) (own : Option Fields)
     → a.items ≡ [] → name ≡ resident_name d r → lists ≡ given_lists draft.resident_lists → gone ≡ is_withdrawn d.instance.residents_withdrawn r
     → own ≡ slice_index_or real.residents r None → two ≡ codes "R" ∷ name ∷ [] → fields ≡ two ++ map (programme_name d) (list_at lists r)
@@ -133,6 +135,6 @@ pub resident_made : (d : Contents) (draft : Draft) (real : Real) (r : ℕ) (a b 
 unfolding resident_lists
 resident_made d draft real r a b c e name two fields lists gone own none n f g o t is h k l = grows_three a b c e _ _ _ h k l ∙ rw (none, is, t, n, f, g, o) refl
 
--- if a text of some kind was added to an empty text, what there is now is of this kind
+-- a text that was made by adding to an empty text is the added text
 pub of_new : (P : List ℕ → Type 0) (old new text : List ℕ) → text ≡ new → old ≡ [] → AppendsText P (Some old) (Some new) → P text
 of_new P old new text e none h = subst P (sym (e ∙ h.appended ∙ ap (λ (t : List ℕ). t ++ h.text) none)) h.wanted

@@ -1,4 +1,5 @@
--- From one text to one member: the lines of a leaf's text read back as the rows that were written.
+-- A leaf's text determines its member: the lines of the text are read back as the rows that were
+-- written.
 use Rattle.std.proofs.Common.{zero, suc, ◌≡◌, ◌≢◌, ◌==◌, ℕ, ◌<◌, ◌≤◌, ◌^◌, List, [], ◌∷◌, ◌++◌, Bool, true, false, Option, Some, None, length, map, get_or, refl, sym, ap, ◌∙◌, append-nil, arith, zero-add}
 use Rattle.std.specs.List.{range_with_len}
 use Rattle.std.specs.Str.Parse.{digits_value}
@@ -101,8 +102,8 @@ without_option c k (Some s) rest other l w = λ r more e lead.
     let both : c ∷ [] ≡ k ∷ [] = sym lead ∙ ap (λ (x : Fields). field x 0) (sym same) ∙ l s refl in
     other (cc both)
 
--- if a record with this letter may stand before rows without it, two equal lists of such rows have
--- the same record and the same rows
+-- if two equal lists of rows may each begin with a record of this letter and have no other such
+-- row, their records and their other rows are equal
 option_told : (c : ℕ) (o o' : Option Fields) (rest rest' : List Fields) → Leads c o → Leads c o' → Without c rest → Without c rest'
     → option_rows o ++ rest ≡ option_rows o' ++ rest' → (o ≡ o') × (rest ≡ rest')
 unfolding option_rows Leads Without
@@ -169,7 +170,7 @@ tail_told g g' side side' name name' real real' e =
 lines_tell : (a b : List Fields) → AreLettered a → AreLettered b → lines a ≡ lines b → a ≡ b
 lines_tell a b h k e = sym (lines_round a h) ∙ ap rows_of e ∙ lines_round b k
 
--- a list's record begins with the letter of its side, and tells the names on the list
+-- a list's record begins with the letter of its side, and two lists with equal records are equal
 list_leads : (c : ℕ) (owner : List ℕ) (list : Option (List (List ℕ))) → Leads c (option_map (list_record (c ∷ []) owner) list)
 unfolding Leads field field_at
 list_leads c owner None r e = absurd (cc e)
@@ -204,8 +205,8 @@ resident_text d draft real r =
 decimal_tells : (m n : ℕ) → m < 2 ^ 64 → n < 2 ^ 64 → decimal m ≡ decimal n → m ≡ n
 decimal_tells m n h k e = sym (decimal_is_IsNumeral m h).1 ∙ ap (digits_value 10) e ∙ (decimal_is_IsNumeral n k).1
 
--- if two texts have the same lines, each first row of the same letter, their first rows are equal,
--- and so are the others
+-- if two lists of rows have the same lines, and their first rows begin with the same letter, their
+-- first rows are equal, and so are their other rows
 first_and_more : (c : ℕ) (a b : Fields) (more more' : List Fields) → (c == 239) ≡ false → field a 0 ≡ c ∷ [] → field b 0 ≡ c ∷ [] → AreLettered more → AreLettered more'
     → lines (a ∷ more) ≡ lines (b ∷ more') → (a ≡ b) × (more ≡ more')
 unfolding AreLettered
@@ -217,8 +218,8 @@ first_is : (letter : List ℕ) (rest : Fields) → field (letter ∷ rest) 0 ≡
 unfolding field field_at
 first_is letter rest = refl
 
--- if the same text is sealed of a programme in two dockets, what it tells of the programme is the
--- same in both
+-- if the same text is sealed for a programme in two dockets, the programme has the same name,
+-- quota, list, withdrawal and real name in both
 one_programme : (d d' : Contents) (draft draft' : Draft) (real real' : Real) (p : ℕ) → quota d.instance p ≤ 10000 → quota d'.instance p ≤ 10000
     → programme_lists d draft real p ≡ programme_lists d' draft' real' p → IsOneProgramme d d' draft draft' real real' p
 one_programme d d' draft draft' real real' p h k e =
@@ -252,8 +253,8 @@ one_programme d d' draft draft' real real' p h k e =
     few : (n : ℕ) → n ≤ 10000 → n < 2 ^ 64
     few n l = omega arith
 
--- if the same text is sealed of a resident in two dockets, what it tells of the resident is the
--- same in both
+-- if the same text is sealed for a resident in two dockets, the resident has the same name, list,
+-- withdrawal and real name in both
 one_resident : (d d' : Contents) (draft draft' : Draft) (real real' : Real) (r : ℕ) → resident_lists d draft real r ≡ resident_lists d' draft' real' r
     → IsOneResident d d' draft draft' real real' r
 one_resident d d' draft draft' real real' r e =
@@ -270,7 +271,6 @@ one_resident d d' draft draft' real real' r e =
     let tail = tail_told g g' (codes "R") (codes "R") n n' m m' same.1 in
     record { name = cc same.0; list = cc same.0; withdrawn = tail.0; real_name = tail.1 }
 
--- if two equal lists are cut after the same number of items, their parts are equal
 cut_alike : {A : Type 0} (xs xs' ys ys' : List A) → length xs ≡ length xs' → xs ++ ys ≡ xs' ++ ys' → (xs ≡ xs') × (ys ≡ ys')
 cut_alike [] [] ys ys' l e = (refl, e)
 cut_alike [] (x ∷ xs') ys ys' l e = absurd (omega arith)
@@ -281,8 +281,8 @@ cut_alike (x ∷ xs) (y ∷ xs') ys ys' l e =
     let same = cut_alike xs xs' ys ys' (omega arith) rest in
     (rw (first, same.0) refl, same.1)
 
--- if lists made of the first n numbers by two functions are equal, the functions make the same of
--- each number below n
+-- if two functions make equal lists of the first n numbers, they have the same value at each number
+-- below n
 each_alike : (f f' : ℕ → List ℕ) (n m : ℕ) → map f (range_with_len 0 n) ≡ map f' (range_with_len 0 m) → n ≡ m → (k : ℕ) → k < n → f k ≡ f' k
 each_alike f f' n m e same k l =
     sym (get_or-map-range_with_len f 0 n k k [] l (zero-add k)) ∙ ap (λ (t : List (List ℕ)). get_or t k []) e

@@ -12,8 +12,8 @@ use Rattle.receipt_check.specs.declared.wrong.CompareFault.TheVariants as faults
 use Rattle.seal_text.specs.Status.{compare_status_of}
 use Rattle.seal_text.specs.declared.compare_line.Rows.{Rows}
 
--- Some two files have these bytes. Either the sentence on their receipts was appended, and the answer is whether they
--- agree, or the answer is a fault that says why not.
+-- The two files have these bytes. Either the sentence on their receipts was appended, and the answer says whether the
+-- receipts agree; or the answer is the fault.
 pub record AnswersPair (lists outcome : Published) (old new : Option (List ℕ)) (answer : Result Bool CompareFault) : Type 0 where
   pub resident : List ℕ
   pub programme : List ℕ
@@ -23,8 +23,8 @@ pub record AnswersPair (lists outcome : Published) (old new : Option (List ℕ))
       × (agree ≡ not (is_some (difference (content_of resident) (content_of programme)))))
       (λ fault. IsCompareFault (pair_fault lists outcome resident programme) fault × (fault ≢ faults.Write → new ≡ old))
 
--- The files of the directory have these bytes. Either what is said of their receipts was appended, and the answer is
--- whether the placement is stable, or the answer is a fault that says why not.
+-- The files of the directory have these bytes. Either the text on their receipts was appended, and the answer says
+-- whether the placement is stable; or the answer is the fault.
 pub record AnswersFolder (lists outcome : Published) (old new : Option (List ℕ)) (answer : Result Bool CompareFault) : Type 0 where
   pub files : List (List ℕ)
   pub answers : MatchResult answer
@@ -33,7 +33,8 @@ pub record AnswersFolder (lists outcome : Published) (old new : Option (List ℕ
       × (stable ≡ is_stable lists.members (contents_of files)))
       (λ fault. IsCompareFault (folder_fault lists outcome files) fault × (fault ≢ faults.Write → new ≡ old))
 
--- one of the rows isn't a number, a comma and 64 small hexadecimal digits, nothing was written, and the status is 2
+-- one of the two rows isn't a number, a comma and 64 small hexadecimal digits; nothing was written, and the status
+-- is 2
 pub record EndsBadRow (rows : Rows) (old new : Option (List ℕ)) (status : ℕ) : Type 0 where
   pub bad : (published_in rows.lists.now ≡ None) ⊎ (published_in rows.outcome.now ≡ None)
   pub nothing : new ≡ old

@@ -1,4 +1,4 @@
--- A tree that is kept with the texts of its leaves.
+-- A hash tree together with the texts of its leaves.
 use Rattle.std.specs.Prelude.{◌≡◌, ℕ, ◌+◌, Option, IfSome, List, length, map, option_map}
 use Rattle.std.specs.Global.{Vec}
 use Rattle.seal_text.specs.Sealed.{hashes_of}
@@ -20,7 +20,7 @@ texts_in grown = texts_of grown.texts.items
 abbrev pub IsGrown : List ℕ → Grown → Type 0
 IsGrown secret grown = grown.tree ≡ hashes_of secret grown.section (texts_in grown)
 
--- the tree belongs to this section, and has this many texts
+-- the tree is that of this section, and has this many leaves
 pub record IsGrownAs (secret : List ℕ) (section : Section) (count : ℕ) (grown : Grown) : Type 0 where
   pub is_grown : IsGrown secret grown
   pub section_is : grown.section ≡ section

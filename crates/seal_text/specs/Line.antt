@@ -14,7 +14,7 @@ use Rattle.seal_text.specs.declared.compare_line.Two.{Two}
 use Rattle.seal_text.specs.declared.serve.Wanted.{Wanted}
 use Rattle.seal_text.specs.declared.serve.Wanted.TheVariants as wanted
 
--- an option with a value; `needed` says whether it has to be given
+-- the rule of an option with a value; `needed` says whether the option has to be given
 abbrev pub option_rule : Text → Bool → Rule
 option_rule id needed = record (value_rule id) { required = needed }
 
@@ -87,7 +87,8 @@ GivesPair given rows two = GivesRows given rows × GivesTwo given two
 abbrev pub GivesFolder : List Row → Rows → Text → Type 0
 GivesFolder given rows directory = GivesRows given rows × (first_of (codes "directory") given ≡ Some directory)
 
--- the values don't give both rows of roots and two receipts; `NamesNoFolder` says it of the rows and a directory
+-- the values don't give both rows of roots and two receipts; `NamesNoFolder` says that they don't give both rows
+-- and a directory
 abbrev pub NamesNoPair : List Row → Type 0
 NamesNoPair given = (rows : Rows) (two : Two) → GivesPair given rows two → ⊥
 

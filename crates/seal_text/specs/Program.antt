@@ -22,8 +22,8 @@ use Rattle.seal_text.specs.declared.line.Order.TheVariants.{Seal, Check, Pair, P
 use Rattle.seal_text.specs.declared.line.Roots.{Roots}
 use Rattle.seal_text.specs.declared.serve.Wanted.{Wanted}
 
--- The docket is standard input, and there is a sheet exactly if one is named, and a key exactly if one is named. Either all that is wanted of the files was
--- appended, or this fault says why not.
+-- The docket is standard input, and there is a sheet exactly if one is named, and a key exactly if one is named. Either
+-- the wanted text was appended, or this fault says why it was not.
 pub record AnswersSeal (wanted : Wanted) (files : Sources) (input old new : Option (List ℕ)) (answer : Result (Unit {0}) SealFault) : Type 0 where
   pub docket : List ℕ
   pub sheet : Option (List ℕ)
@@ -45,7 +45,7 @@ pub record AnswersCheck (lists : List ℕ) (outcome : Option (List ℕ)) (input 
       (λ _. (receipt_fault lists outcome bytes ≡ None) × Appends old new (told_of outcome bytes))
       (λ fault. IsReceiptFault lists outcome bytes fault × (fault ≢ receipt.Write → new ≡ old))
 
--- the result's root that its digits write, if digits are given; none inside if they write no root
+-- the result's root, if its digits are given; none inside if the digits write no root
 abbrev pub outcome_of : Roots → Option (Option (List ℕ))
 outcome_of roots = option_map (λ digits. digest_of digits.now) roots.outcome
 
@@ -64,7 +64,7 @@ pub record EndsChecked (roots : Roots) (input old new : Option (List ℕ)) (stat
   pub outcome_is : outcome_of roots ≡ option_map Some outcome
   pub ends : EndsServed (AnswersCheck lists outcome input old new) receipt_status_of old new status
 
--- what the order asks for was done, or something that it names was not read
+-- what the order asks for was done, or a file or directory that it names was not read
 abbrev pub ServesSeal : Option (List ℕ) → Option (List ℕ) → Option (List ℕ) → ℕ → Order → Type 0
 ServesSeal input old new status (Seal wanted files) = EndsServed (AnswersSeal wanted files input old new) seal_status_of old new status
 ServesSeal input old new status (Check roots) = EndsBadRoot roots old new status ⊎ EndsChecked roots input old new status

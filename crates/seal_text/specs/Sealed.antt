@@ -64,14 +64,15 @@ abbrev pub opening_row : Section → ℕ → List ℕ → List (List ℕ) → Li
 opening_row section i salt path =
     codes "opens," ++ (word_of section ++ (codes "," ++ (decimal i ++ (digest_field salt ++ path_fields path))))
 
--- what a receipt has of the tree over these texts: its root, the opening of the leaf at this place, and the leaf's text
+-- the part of a receipt about the tree over these texts: the tree's root, the opening of the leaf at this place, and
+-- the leaf's text
 unfoldable pub part_text : List ℕ → Section → List (List ℕ) → ℕ → List ℕ
 part_text secret section texts i =
     root_row_of secret section texts
     ++ (opening_row section i (salt_of secret section i) (path_of i (hashes_of secret section texts))
     ++ slice_index_or texts i [])
 
--- what a receipt has of the result, if there is one
+-- the part of a receipt about the result, if there is a result
 abbrev pub result_text_if : List ℕ → Option (List (List ℕ)) → ℕ → List ℕ
 result_text_if secret None i = []
 result_text_if secret (Some texts) i = part_text secret Outcome texts i

@@ -42,7 +42,8 @@ pub record IsEarlyText (wanted : Wanted) (docket : List ℕ) (key : Option (List
   pub are_real : AreReal d key real
   pub text_is : text ≡ text_of wanted secret d (lists_texts d (draft_in docket []) real) None
 
--- with `true`, what is wanted can be told of the case: receipts only of a stable sheet; with `false`, it can't
+-- whether the wanted text may be written for the case: it may, unless receipts are wanted and the sheet isn't
+-- stable
 abbrev pub IsTold : Wanted → CaseParts → Bool → Type 0
 IsTold wanted c true = wanted ≡ Receipts → IsStable c.docket.instance c.sheet
 IsTold wanted c false = (wanted ≡ Receipts) × ¬ IsStable c.docket.instance c.sheet
@@ -58,8 +59,8 @@ abbrev pub IsUnfit : Wanted → List ℕ → Option (List ℕ) → Type 0
 IsUnfit wanted docket None = ⊥
 IsUnfit wanted docket (Some sheet) = IsUnstable wanted docket sheet
 
--- the text to write for a case, which is stable if receipts are wanted, with the lists of this draft and the real names in a
--- key, if there is one
+-- the text to write for a case, with the lists of this draft and the real names of a key, if there is one; receipts are
+-- written only for a stable sheet
 pub record IsTextOf (wanted : Wanted) (c : CaseParts) (draft : Draft) (key : Option (List ℕ)) (secret text : List ℕ) : Type 0 where
   pub stable : wanted ≡ Receipts → IsStable c.docket.instance c.sheet
   pub real : Real
@@ -91,43 +92,43 @@ pub record HasNoSheet (docket sheet : List ℕ) : Type 0 where
   pub read : IsDocketIn docket sheet [] d
   pub none : d.sheet ≡ None
 
--- why nothing was made of the files: they are no docket, or there is no sheet
+-- why there is no text for the files: they are no docket, or they have no sheet
 abbrev pub IsCaseFault : List ℕ → List ℕ → FilesFault → Type 0
 IsCaseFault docket sheet fault = IsReadingFault docket sheet [] fault ⊎ ((fault ≡ files.NoSheet) × HasNoSheet docket sheet)
 
--- why nothing was made of the files, of which the sheet's file may be missing
+-- why there is no text for the files; the sheet's file may be missing
 abbrev pub IsFilesFault : List ℕ → Option (List ℕ) → FilesFault → Type 0
 IsFilesFault docket None fault = IsReadingFault docket [] [] fault
 IsFilesFault docket (Some sheet) fault = IsCaseFault docket sheet fault
 
--- the key that is given gives no real names, for this reason
+-- there is a key, and it gives no real names, for this reason
 abbrev pub IsOfKey : Option (List ℕ) → (List ℕ → NamesFault → Type 0) → SealFault → Type 0
 IsOfKey key IsFault (Key fault) = IsSomeAnd key (λ bytes. IsFault bytes fault)
 IsOfKey key IsFault fault = ⊥
 
--- why nothing is told of a case: memory ran out, the key gives no real names, or receipts are wanted and the sheet isn't
--- stable
+-- why there is no text for a case: memory ran out, the key gives no real names, or receipts are wanted and the sheet
+-- isn't stable
 abbrev pub IsUntold : Wanted → CaseParts → Option (List ℕ) → SealFault → Type 0
 IsUntold wanted c key (Secret fault) = ⊥
 IsUntold wanted c key (Files fault) = fault ≡ files.Memory
 IsUntold wanted c key (Key fault) = IsSomeAnd key (λ bytes. IsNamesFault c.docket bytes fault)
 IsUntold wanted c key Unstable = IsTold wanted c false
 
--- the files give a docket, for which the key gives no real names, for this reason
+-- the files give a docket, and the key gives no real names for it, for this reason
 pub record IsUnnamed (docket : List ℕ) (sheet key : Option (List ℕ)) (fault : NamesFault) : Type 0 where
   pub d : Contents
   pub read : IsDocketIn docket (unwrap_or sheet []) [] d
   pub is_fault : IsSomeAnd key (λ bytes. IsNamesFault d bytes fault)
 
--- why no text was made of the files and the key, if the secret is good
+-- why there is no text for the files and the key, if the secret is good
 abbrev pub IsUnmade : Wanted → List ℕ → Option (List ℕ) → Option (List ℕ) → SealFault → Type 0
 IsUnmade wanted docket sheet key (Secret fault) = ⊥
 IsUnmade wanted docket sheet key (Files fault) = IsFilesFault docket sheet fault
 IsUnmade wanted docket sheet key (Key fault) = IsUnnamed docket sheet key fault
 IsUnmade wanted docket sheet key Unstable = IsUnfit wanted docket sheet
 
--- why nothing was written: the first file has no secret, the writer failed, or nothing was made of the files, since they are
--- at fault, or the key is, or receipts are wanted of a sheet that isn't stable
+-- why the text was not written: the secret's file has no secret, the writer failed, the docket's or the sheet's file or
+-- the key is at fault, or receipts are wanted and the sheet isn't stable
 abbrev pub IsSealFault : Wanted → List ℕ → Option (List ℕ) → Option (List ℕ) → List ℕ → SealFault → Type 0
 IsSealFault wanted docket sheet key secret_text (Secret fault) = secret_of secret_text ≡ Err fault
 IsSealFault wanted docket sheet key secret_text (Files fault) = (fault ≡ files.Write) ⊎ IsFilesFault docket sheet fault

@@ -1,4 +1,4 @@
--- What is sealed of each member: the texts of the leaves.
+-- The texts that are sealed for each member: the texts of the leaves.
 use Rattle.std.specs.Prelude.{◌≡◌, ℕ, Bool, if◌then◌else◌, Option, Some, None, List, [], ◌∷◌, ◌++◌, length, codes, decimal, map, option_map, nat_lt, ◌<◌, slice_get, slice_index_or, true}
 use Rattle.std.specs.List.{flat_map, list_all, range_with_len}
 use Rattle.csv.specs.Records.{Row, fields_of, partial_of}
@@ -47,8 +47,8 @@ quota_row name places = row (codes "Q" ∷ name ∷ decimal places ∷ [])
 abbrev pub name_record : Option Fields → Option Fields
 name_record real = option_map (λ fields. codes "N" ∷ fields) real
 
--- What is sealed of programme p before the match: p's name and quota, p's list, whether p is withdrawn, and p's real name, if
--- it is known. The draft has what the docket's records hand in, the lists as they were written.
+-- The text sealed for programme p before the match: p's name and quota, p's list, whether p is withdrawn, and p's real
+-- name, if it is known. The draft has the lists as they were written.
 unfoldable pub programme_lists : Contents → Draft → Real → ℕ → List ℕ
 programme_lists d draft real p =
     quota_row (programme_name d p) (quota d.instance p)
@@ -56,7 +56,8 @@ programme_lists d draft real p =
     ++ (withdrawal_if (is_withdrawn d.instance.programmes_withdrawn p) (codes "P") (programme_name d p)
     ++ line_if (name_record (slice_index_or real.programmes p None))))
 
--- what is sealed of resident r before the match: r's name and list, whether r is withdrawn, and r's real name, if it is known
+-- the text sealed for resident r before the match: r's name and list, whether r is withdrawn, and r's real name, if it
+-- is known
 unfoldable pub resident_lists : Contents → Draft → Real → ℕ → List ℕ
 resident_lists d draft real r =
     line (list_record (codes "R") (resident_name d r) (list_of_resident d draft r))
@@ -81,7 +82,7 @@ pub record NameMembers (d : Contents) (given : List (Option (List ℕ))) (writte
   pub residents : (p : ℕ) (list : List ℕ) → slice_index_or given p None ≡ Some list → list_all (λ r. nat_lt r (length d.residents)) list ≡ true
   pub programmes : (r : ℕ) → r < length d.residents → list_all (λ p. nat_lt p (length d.programmes)) (list_at written.resident_lists r) ≡ true
 
--- exactly these fields were added to a record, and none is half written
+-- exactly these fields were added to a record, and the record has no unfinished field
 pub record Extends (old new : Row) (fields : Fields) : Type 0 where
   pub added : fields_of new ≡ fields_of old ++ fields
   pub whole : partial_of new ≡ []
@@ -94,7 +95,7 @@ member_row d m p r = if holds p (programme_of m r) then mark_row d r (Some p) el
 abbrev pub member_rows : Contents → List (Option ℕ) → ℕ → ℕ → List ℕ
 member_rows d m p n = flat_map (member_row d m p) (range_with_len 0 n)
 
--- what is sealed of programme p after the match: how many places are filled, and by whom
+-- the text sealed for programme p after the match: how many places are filled, and by whom
 unfoldable pub programme_result : Contents → List (Option ℕ) → ℕ → List ℕ
 programme_result d m p = filled_row d m p ++ member_rows d m p (length d.instance.resident_lists)
 
@@ -103,8 +104,7 @@ pub record HasSheet (c : CaseParts) : Type 0 where
   pub whole : IsWhole c.docket
   pub sheet_of : IsSheetOf c.docket c.sheet
 
--- what is sealed of resident r after the match: where r is placed, and r's rows of the table of reasons for all
--- residents
+-- the text sealed for resident r after the match: where r is placed, and r's rows of the table of reasons
 pub record IsResidentResult (c : CaseParts) (r : ℕ) (text : List ℕ) : Type 0 where
   pub reasons : List ℕ
   pub rows : AreRowsOn c (own_names c.docket) Bool.false r reasons
@@ -121,7 +121,7 @@ pub record PushesResults (c : CaseParts) (n : ℕ) (old new : List (List ℕ)) :
   pub are : AreResidentResults c n texts
   pub pushed : new ≡ old ++ texts
 
--- the text of what is sealed of resident r after the match was added
+-- the text sealed for resident r after the match was added
 pub record AddsResidentResult {W : Type 0} (contents : W → Option (List ℕ)) (c : CaseParts) (r : ℕ) (old new : RowWriter W) : Type 0 where
   pub text : List ℕ
   pub is : IsResidentResult c r text

@@ -17,21 +17,21 @@ use std::process::ExitCode;
 use std::random::RandomSource;
 use std::rt::Files;
 
-// Writes that the value of an option isn't the row of a root, and gives the exit status.
-fn refuse_row<T: Eprint>(told: &T, word: &str) -> ExitCode
+// Writes that the value of an option isn't the row of a root, and returns the exit status.
+fn refuse_row<T: Eprint>(console: &T, word: &str) -> ExitCode
     ensures { exit_status_in result ≡ 2 }
 {
-    let _ = eprintln!(told;
+    let _ = eprintln!(console;
         "residency: --{word}: not a number, a comma and 64 small hexadecimal digits"
     );
     ExitCode::from(2)
 }
 
 // Writes why receipts weren't compared. No exit status depends on whether this text could be written.
-fn tell<T: Eprint>(told: &T, path: Option<&str>, fault: &CompareFault) {
+fn tell<T: Eprint>(console: &T, path: Option<&str>, fault: &CompareFault) {
     let _ = match path {
-        Some(path) => eprintln!(told; "residency: {path}: {fault}"),
-        None => eprintln!(told; "residency: {fault}"),
+        Some(path) => eprintln!(console; "residency: {path}: {fault}"),
+        None => eprintln!(console; "residency: {fault}"),
     };
 }
 
@@ -43,8 +43,8 @@ fn path_at(alloc: Global, paths: &[String], fault: &CompareFault) -> Option<Stri
     }
 }
 
-// Writes that a file of a directory was not read, and gives the exit status.
-fn refuse_one<T: Eprint>(alloc: Global, unread: &Unread, told: &T) -> ExitCode
+// Writes that a file of a directory was not read, and returns the exit status.
+fn refuse_one<T: Eprint>(alloc: Global, unread: &Unread, console: &T) -> ExitCode
     ensures { exit_status_in result ≡ 1 }
 {
     let path = match unread {
@@ -52,10 +52,10 @@ fn refuse_one<T: Eprint>(alloc: Global, unread: &Unread, told: &T) -> ExitCode
     };
     match (path, unread) {
         (Ok(path), Unread::Unreadable(_)) => {
-            refuse_unread(told, &Unread::Unreadable(path.as_str()))
+            refuse_unread(console, &Unread::Unreadable(path.as_str()))
         }
-        (Ok(path), Unread::Memory(_)) => refuse_unread(told, &Unread::Memory(path.as_str())),
-        (Err(_), _) => refuse_unread(told, &Unread::Memory("the directory")),
+        (Ok(path), Unread::Memory(_)) => refuse_unread(console, &Unread::Memory(path.as_str())),
+        (Err(_), _) => refuse_unread(console, &Unread::Memory("the directory")),
     }
 }
 
@@ -67,7 +67,7 @@ fn compare_two<W: Write, T: Eprint, H: RandomSource + Files + AllocGlobal>(
     outcome: &Published,
     two: &Two,
     writer: &mut W,
-    told: &T,
+    console: &T,
 ) -> ExitCode
     ensures { EndsServed (AnswersPair lists.now outcome.now
         (W.contents writer.old) (W.contents writer.new)) compare_status_of
@@ -75,21 +75,21 @@ fn compare_two<W: Write, T: Eprint, H: RandomSource + Files + AllocGlobal>(
 {
     let resident = match load_path(rt, two.resident) {
         Ok(resident) => resident,
-        Err(unread) => return refuse_unread(told, &unread),
+        Err(unread) => return refuse_unread(console, &unread),
     };
     let programme = match load_path(rt, two.programme) {
         Ok(programme) => programme,
-        Err(unread) => return refuse_unread(told, &unread),
+        Err(unread) => return refuse_unread(console, &unread),
     };
-    let (one, other) = (resident.as_slice(), programme.as_slice());
-    let answer = serve_pair(rt, alloc, lists, outcome, one, other, writer);
+    let (resident, programme) = (resident.as_slice(), programme.as_slice());
+    let answer = serve_pair(rt, alloc, lists, outcome, resident, programme, writer);
     if let Err(fault) = &answer {
         let path = match fault {
             CompareFault::Wrong(0, _) => Some(two.resident),
             CompareFault::Wrong(_, _) => Some(two.programme),
             CompareFault::Memory | CompareFault::Write => None,
         };
-        tell(told, path, fault);
+        tell(console, path, fault);
     }
     ExitCode::from(compare_status(&answer))
 }
@@ -102,7 +102,7 @@ fn compare_all<W: Write, T: Eprint, H: RandomSource + Files + AllocGlobal>(
     outcome: &Published,
     directory: &str,
     writer: &mut W,
-    told: &T,
+    console: &T,
 ) -> ExitCode
     ensures { EndsServed (AnswersFolder lists.now outcome.now
         (W.contents writer.old) (W.contents writer.new)) compare_status_of
@@ -110,60 +110,60 @@ fn compare_all<W: Write, T: Eprint, H: RandomSource + Files + AllocGlobal>(
 {
     let paths = match paths_in(rt, alloc, directory) {
         Ok(paths) => paths,
-        Err(unread) => return refuse_unread(told, &unread),
+        Err(unread) => return refuse_unread(console, &unread),
     };
     let files = match load_all(rt, alloc, paths.as_slice()) {
         Ok(files) => files,
-        Err(unread) => return refuse_one(alloc, &unread, told),
+        Err(unread) => return refuse_one(alloc, &unread, console),
     };
     let answer = serve_pairs(rt, alloc, lists, outcome, files.as_slice(), writer);
     if let Err(fault) = &answer {
         match path_at(alloc, paths.as_slice(), fault) {
-            Some(path) => tell(told, Some(path.as_str()), fault),
-            None => tell(told, None, fault),
+            Some(path) => tell(console, Some(path.as_str()), fault),
+            None => tell(console, None, fault),
         }
     }
     ExitCode::from(compare_status(&answer))
 }
 
-/// Compares two receipts under the roots in these rows, and gives the exit status.
+/// Compares two receipts under the roots in these rows, and returns the exit status.
 pub(crate) fn compare_pair<W: Write, T: Eprint, H: RandomSource + Files + AllocGlobal>(
     rt: &H,
     alloc: Global,
     rows: &Rows,
     two: &Two,
     writer: &mut W,
-    told: &T,
+    console: &T,
 ) -> ExitCode
     ensures { EndsPair rows.now (W.contents writer.old) (W.contents writer.new)
         (exit_status_in result) }
 {
     let Some(lists) = published_of(rows.lists.as_bytes()) else {
-        return refuse_row(told, "lists");
+        return refuse_row(console, "lists");
     };
     let Some(outcome) = published_of(rows.outcome.as_bytes()) else {
-        return refuse_row(told, "result");
+        return refuse_row(console, "result");
     };
-    compare_two(rt, alloc, &lists, &outcome, two, writer, told)
+    compare_two(rt, alloc, &lists, &outcome, two, writer, console)
 }
 
-/// Compares the receipts of a directory under the roots in these rows, and gives the exit status.
+/// Compares the receipts of a directory under the roots in these rows, and returns the exit status.
 pub(crate) fn compare_pairs<W: Write, T: Eprint, H: RandomSource + Files + AllocGlobal>(
     rt: &H,
     alloc: Global,
     rows: &Rows,
     directory: &str,
     writer: &mut W,
-    told: &T,
+    console: &T,
 ) -> ExitCode
     ensures { EndsPairs rows.now (W.contents writer.old) (W.contents writer.new)
         (exit_status_in result) }
 {
     let Some(lists) = published_of(rows.lists.as_bytes()) else {
-        return refuse_row(told, "lists");
+        return refuse_row(console, "lists");
     };
     let Some(outcome) = published_of(rows.outcome.as_bytes()) else {
-        return refuse_row(told, "result");
+        return refuse_row(console, "result");
     };
-    compare_all(rt, alloc, &lists, &outcome, directory, writer, told)
+    compare_all(rt, alloc, &lists, &outcome, directory, writer, console)
 }

@@ -35,7 +35,7 @@ memory, reading or writing failed; 2 for a wrong command line.
 
 Example: residency-seal pairs --lists 8,ROOT --result 8,ROOT receipts";
 
-/// The rows that were published of both trees: each has a number, a comma and a root's digits.
+/// The published rows of both trees: each has a number, a comma and a root's digits.
 #[derive(Clone, Copy, Debug, PartialEq, Eq)]
 pub struct Rows<'a> {
     /// The row of the lists' root.

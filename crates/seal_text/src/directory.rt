@@ -20,7 +20,7 @@ fn with_slash(alloc: Global, path: &str) -> Result<String, AllocError> {
 fn names_in<H: Files>(rt: &H, alloc: Global, directory: &str) -> io::Result<Vec<u8>> {
     let mut names = Vec::new(alloc);
     let mut opened = rt.open_dir(directory)?;
-    // A file system may refuse to read into less room than the longest name takes.
+    // With less room than the longest name takes, a file system may refuse to read.
     let mut room = [0u8; 4096];
     for _ in 0..u64::MAX {
         let count = opened.read(&mut room)?;

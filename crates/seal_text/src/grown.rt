@@ -13,7 +13,7 @@ use std::alloc::{AllocError, Global};
 /// A tree with the texts of its leaves.
 #[derive(Drop)]
 pub(crate) struct Grown {
-    /// Which of the two trees it is.
+    /// Which of a docket's two trees this is.
     pub(crate) section: Section,
     /// The texts of the tree's leaves.
     pub(crate) texts: Vec<Vec<u8>>,
@@ -104,7 +104,8 @@ impl Grown {
         put_root_row(alloc, text, self.section, self.texts.len(), &root)
     }
 
-    /// Adds what a receipt has of this tree: its root, the opening of a leaf, and the leaf's text.
+    /// Adds the part of a receipt about this tree: the tree's root, the opening of a leaf, and the
+    /// leaf's text.
     pub(crate) fn put_part(
         &self,
         alloc: Global,

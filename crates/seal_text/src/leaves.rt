@@ -11,12 +11,12 @@ use std::alloc::{AllocError, Global};
 pub enum Section {
     /// The lists that members handed in.
     Lists,
-    /// What the match gave them, and why.
+    /// The result of each member, and the reasons.
     Outcome,
 }
 
 impl Section {
-    /// The byte by which the salts of the two trees differ.
+    /// The byte that makes the salts of the two trees different.
     pub(crate) fn tag(self) -> u8
         ensures { result ≡ tag_of self }
     {

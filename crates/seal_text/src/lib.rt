@@ -1,8 +1,8 @@
 //! Sealing a docket: the roots of its lists and of its result, and each member's receipt; and the program, which also checks
 //! receipts and compares them.
 //!
-//! The program is `seal_words`, over the words and the streams that it is given. What the files give no contract can say, so
-//! the work is over their bytes.
+//! The program is `seal_words`, over the words and the streams that it is given. No contract can say what files
+//! contain, so the other calls work over the bytes of files.
 #![tactic(auto)]
 
 mod compare;

@@ -51,7 +51,7 @@ reading or writing failed; 2 for a wrong command line.
 
 Example: residency-seal check --lists ROOT --result ROOT < receipt.csv";
 
-/// The files, besides the docket, from which something is sealed.
+/// The files, besides the docket, that are used for sealing.
 #[derive(Clone, Copy, Debug, PartialEq, Eq)]
 pub struct Sources<'a> {
     /// The secret's file.
@@ -71,7 +71,7 @@ pub struct Roots<'a> {
     pub outcome: Option<&'a str>,
 }
 
-/// What the words order.
+/// What the command line's words order.
 #[derive(Clone, Copy, Debug, PartialEq, Eq)]
 pub enum Order<'a> {
     /// To seal a docket: to write its roots, or the receipts of its members.
@@ -212,8 +212,7 @@ fn roots_of<'a>(matches: &ArgMatches<'a>) -> Option<Roots<'a>>
     }
 }
 
-// The order to seal what is wanted of the files that a command line names, if it names the secret's
-// file.
+// The order to seal, with the files that a command line names, if it names the secret's file.
 fn seal_named<'a>(wanted: Wanted, matches: &ArgMatches<'a>) -> Option<Order<'a>>
     ensures named { IfSome result (IsOrdered (Some
         (sealing_word wanted, rows_of (found_of matches.now)))) }

@@ -40,14 +40,14 @@ fn file_of<'a>(files: &Sources<'a>, fault: &SealFault) -> Option<&'a str> {
 }
 
 // Writes why nothing was sealed. No exit status depends on whether this text could be written.
-fn tell<T: Eprint>(told: &T, files: &Sources, fault: &SealFault) {
+fn tell<T: Eprint>(console: &T, files: &Sources, fault: &SealFault) {
     let _ = match file_of(files, fault) {
-        Some(file) => eprintln!(told; "residency: {file}: {fault}"),
-        None => eprintln!(told; "residency: {fault}"),
+        Some(file) => eprintln!(console; "residency: {file}: {fault}"),
+        None => eprintln!(console; "residency: {fault}"),
     };
 }
 
-// Reads the files, and writes what is wanted: the roots, or the receipts.
+// Reads the files, and writes the roots or the receipts, as wanted.
 fn seal_files<R, W, T, H>(
     rt: &H,
     alloc: Global,
@@ -55,7 +55,7 @@ fn seal_files<R, W, T, H>(
     files: &Sources,
     reader: &mut R,
     writer: &mut W,
-    told: &T,
+    console: &T,
 ) -> ExitCode
 where
     R: Read,
@@ -68,34 +68,34 @@ where
 {
     let secret = match load_path(rt, files.secret) {
         Ok(secret) => secret,
-        Err(unread) => return refuse_unread(told, &unread),
+        Err(unread) => return refuse_unread(console, &unread),
     };
     let loaded = match load_path_if(rt, files.sheet) {
         Ok(loaded) => loaded,
-        Err(unread) => return refuse_unread(told, &unread),
+        Err(unread) => return refuse_unread(console, &unread),
     };
     let key = match load_path_if(rt, files.key) {
         Ok(key) => key,
-        Err(unread) => return refuse_unread(told, &unread),
+        Err(unread) => return refuse_unread(console, &unread),
     };
     let docket = match load_input(alloc, "standard input", reader) {
         Ok(docket) => docket,
-        Err(unread) => return refuse_unread(told, &unread),
+        Err(unread) => return refuse_unread(console, &unread),
     };
     let (docket, secret) = (docket.as_slice(), secret.as_slice());
     let (sheet, key) = (lent(&loaded), lent(&key));
     let answer = serve(rt, alloc, wanted, docket, sheet, key, secret, writer);
     if let Err(fault) = &answer {
-        tell(told, files, fault);
+        tell(console, files, fault);
     }
     ExitCode::from(seal_status(&answer))
 }
 
-// Writes that the value of an option isn't a root, and gives the exit status.
-fn refuse_root<T: Eprint>(told: &T, word: &str) -> ExitCode
+// Writes that the value of an option isn't a root, and returns the exit status.
+fn refuse_root<T: Eprint>(console: &T, word: &str) -> ExitCode
     ensures { exit_status_in result ≡ 2 }
 {
-    let _ = eprintln!(told; "residency: --{word}: not 64 small hexadecimal digits");
+    let _ = eprintln!(console; "residency: --{word}: not 64 small hexadecimal digits");
     ExitCode::from(2)
 }
 
@@ -123,7 +123,7 @@ fn check_input<R: Read, W: Write, T: Eprint, H: RandomSource>(
     outcome: Option<&[u8; 32]>,
     reader: &mut R,
     writer: &mut W,
-    told: &T,
+    console: &T,
 ) -> ExitCode
     ensures { EndsServed (AnswersCheck lists.now (option_map (λ root. root.now) outcome.entry)
         (R.remaining reader.old) (W.contents writer.old) (W.contents writer.new)) receipt_status_of
@@ -131,11 +131,11 @@ fn check_input<R: Read, W: Write, T: Eprint, H: RandomSource>(
 {
     let receipt = match load_input(alloc, "standard input", reader) {
         Ok(receipt) => receipt,
-        Err(unread) => return refuse_unread(told, &unread),
+        Err(unread) => return refuse_unread(console, &unread),
     };
     let answer = serve_receipt(rt, alloc, receipt.as_slice(), lists, outcome, writer);
     if let Err(fault) = &answer {
-        let _ = eprintln!(told; "residency: {fault}");
+        let _ = eprintln!(console; "residency: {fault}");
     }
     ExitCode::from(receipt_status(&answer))
 }
@@ -147,24 +147,24 @@ fn check_roots<R: Read, W: Write, T: Eprint, H: RandomSource>(
     roots: &Roots,
     reader: &mut R,
     writer: &mut W,
-    told: &T,
+    console: &T,
 ) -> ExitCode
     ensures { EndsBadRoot roots.now (W.contents writer.old) (W.contents writer.new)
         (exit_status_in result) ⊎ EndsChecked roots.now (R.remaining reader.old)
         (W.contents writer.old) (W.contents writer.new) (exit_status_in result) }
 {
     let Some(lists) = digest_of(roots.lists.as_bytes()) else {
-        return refuse_root(told, "lists");
+        return refuse_root(console, "lists");
     };
     let Some(outcome) = outcome_of(roots.outcome) else {
-        return refuse_root(told, "result");
+        return refuse_root(console, "result");
     };
-    check_input(rt, alloc, &lists, outcome.as_ref(), reader, writer, told)
+    check_input(rt, alloc, &lists, outcome.as_ref(), reader, writer, console)
 }
 
-/// Seals a docket, checks a receipt or compares receipts, as the words order, and gives the exit status. It is 0 if
-/// all was written, and 4 for a receipt that is wrong and for receipts that differ. It is 1 if memory, reading or
-/// writing failed, 2 for a wrong command line, and 3 for a file at fault.
+/// Seals a docket, checks a receipt or compares receipts, as the words order, and returns the exit status. The
+/// status is 0 if all was written, and 4 for a receipt that is wrong and for receipts that differ. It is 1 if
+/// memory, reading or writing failed, 2 for a wrong command line, and 3 for a file at fault.
 ///
 /// The words are those after the program's own name. Help and the version go to standard output. The reason why
 /// nothing was written goes to standard error.
@@ -174,7 +174,7 @@ pub fn seal_words<R, W, T, H>(
     words: io::Result<Vec<String>>,
     reader: &mut R,
     writer: &mut W,
-    told: &T,
+    console: &T,
 ) -> ExitCode
 where
     R: Read,
@@ -186,17 +186,17 @@ where
 {
     let texts = match texts_of(words) {
         Ok(texts) => texts,
-        Err(fault) => return refuse(told, &fault),
+        Err(fault) => return refuse(console, &fault),
     };
     match read_line(alloc, texts.as_slice()) {
         Ok(Order::Seal(wanted, files)) => {
-            seal_files(rt, alloc, wanted, &files, reader, writer, told)
+            seal_files(rt, alloc, wanted, &files, reader, writer, console)
         }
-        Ok(Order::Check(roots)) => check_roots(rt, alloc, &roots, reader, writer, told),
-        Ok(Order::Pair(rows, two)) => compare_pair(rt, alloc, &rows, &two, writer, told),
+        Ok(Order::Check(roots)) => check_roots(rt, alloc, &roots, reader, writer, console),
+        Ok(Order::Pair(rows, two)) => compare_pair(rt, alloc, &rows, &two, writer, console),
         Ok(Order::Pairs(rows, directory)) => {
-            compare_pairs(rt, alloc, &rows, directory, writer, told)
+            compare_pairs(rt, alloc, &rows, directory, writer, console)
         }
-        Err(fault) => refuse(told, &UsageFault::Line(fault)),
+        Err(fault) => refuse(console, &UsageFault::Line(fault)),
     }
 }

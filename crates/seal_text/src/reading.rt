@@ -27,7 +27,7 @@ pub(crate) fn read_lists<H: RandomSource>(
 {
     match read_parts_with_lists(rt, alloc, Limits::Standard, docket, sheet, &[]) {
         Ok(read) => Ok(read),
-        Err(there) => Err(told(there)),
+        Err(file_fault) => Err(told(file_fault)),
     }
 }
 
@@ -43,12 +43,12 @@ pub(crate) fn read_case<H: RandomSource>(
         AreGiven (rows_of_all docket.now sheet.now []) read.0.docket read.1) }
     ensures fault { IfErr result (IsCaseFault docket.now sheet.now) }
 {
-    let (docket, lists, given) = match read_lists(rt, alloc, docket, sheet) {
+    let (docket, lists, given_lists) = match read_lists(rt, alloc, docket, sheet) {
         Ok(read) => read,
         Err(fault) => return Err(fault),
     };
     match Case::of_docket(alloc, docket, lists, true) {
-        Ok(case) => Ok((case, given)),
+        Ok(case) => Ok((case, given_lists)),
         Err(WhyFault::NoSheet) => Err(FilesFault::NoSheet),
         Err(_) => Err(FilesFault::Memory),
     }

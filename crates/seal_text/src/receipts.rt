@@ -22,7 +22,7 @@ pub(crate) struct Trees {
 }
 
 impl Trees {
-    // Adds what a receipt has of the result's tree, if there is one.
+    // Adds the part of a receipt about the result's tree, if there is such a tree.
     fn put_outcome(
         &self,
         alloc: Global,

@@ -28,7 +28,7 @@ use std::alloc::{AllocError, Global};
 use std::io::Write;
 use std::random::RandomSource;
 
-/// What to write about a docket.
+/// What the program writes when it seals a docket.
 #[derive(Clone, Copy, Debug, PartialEq, Eq)]
 pub enum Wanted {
     /// The rows of the trees' roots.
@@ -57,7 +57,7 @@ fn grown_if(
     }
 }
 
-// Adds the roots or the receipts, as wanted, from the trees of a docket.
+// Adds the roots of a docket's trees, or the receipts, as wanted.
 fn put_wanted(
     alloc: Global,
     text: &mut Vec<u8>,
@@ -77,7 +77,7 @@ fn put_wanted(
     }
 }
 
-// The roots or the receipts, as wanted, from the texts of the leaves.
+// The roots or the receipts, as wanted, of trees whose leaves have these texts.
 fn text_of(
     alloc: Global,
     wanted: Wanted,
@@ -105,17 +105,18 @@ fn text_of_case(
     wanted: Wanted,
     secret: &[u8; 32],
     case: &Case,
-    given: &ProgrammeLists,
+    given_lists: &ProgrammeLists,
     names: &RealNames,
 ) -> Result<Vec<u8>, AllocError>
     requires sheet { HasSheet case.now }
-    requires lists { NameMembers case.now.docket given.now case.now.written }
-    ensures { IfOk result (λ text. (draft : Draft) → AreListsOf draft given.now case.now.written
+    requires lists { NameMembers case.now.docket given_lists.now case.now.written }
+    ensures { IfOk result (λ text. (draft : Draft)
+        → AreListsOf draft given_lists.now case.now.written
         → (results : List (List ℕ)) × AreResultTexts case.now results
         × (text.items ≡ serving.text_of wanted secret.now case.now.docket
         (texts.lists_texts case.now.docket draft names.now) (Some results))) }
 {
-    let lists = lists_texts(alloc, case.docket(), given, case.written(), names)?;
+    let lists = lists_texts(alloc, case.docket(), given_lists, case.written(), names)?;
     let outcome = result_texts(alloc, case)?;
     text_of(alloc, wanted, secret, case.docket(), lists, Some(outcome))
 }
@@ -127,15 +128,15 @@ fn text_of_docket(
     secret: &[u8; 32],
     docket: &Docket,
     written: &WrittenLists,
-    given: &ProgrammeLists,
+    given_lists: &ProgrammeLists,
     names: &RealNames,
 ) -> Result<Vec<u8>, AllocError>
-    requires { NameMembers docket.now given.now written.now }
-    ensures { IfOk result (λ text. (draft : Draft) → AreListsOf draft given.now written.now
+    requires { NameMembers docket.now given_lists.now written.now }
+    ensures { IfOk result (λ text. (draft : Draft) → AreListsOf draft given_lists.now written.now
         → text.items ≡ serving.text_of wanted secret.now docket.now
         (texts.lists_texts docket.now draft names.now) None) }
 {
-    let lists = lists_texts(alloc, docket, given, written, names)?;
+    let lists = lists_texts(alloc, docket, given_lists, written, names)?;
     text_of(alloc, wanted, secret, docket, lists, None)
 }
 
@@ -172,7 +173,7 @@ fn early_text<H: RandomSource>(
         IsEarlyText wanted docket.now (option_copied key.entry) secret.now text.items) }
     ensures fault { IfErr result (IsUnmade wanted docket.now None (option_copied key.entry)) }
 {
-    let (read, written, given) = match read_lists(rt, alloc, docket, &[]) {
+    let (read, written, given_lists) = match read_lists(rt, alloc, docket, &[]) {
         Ok(read) => read,
         Err(fault) => return Err(SealFault::Files(fault)),
     };
@@ -180,13 +181,14 @@ fn early_text<H: RandomSource>(
         Ok(names) => names,
         Err(fault) => return Err(fault),
     };
-    match text_of_docket(alloc, wanted, secret, &read, &written, &given, &names) {
+    match text_of_docket(alloc, wanted, secret, &read, &written, &given_lists, &names) {
         Ok(text) => Ok(text),
         Err(_) => Err(SealFault::Files(FilesFault::Memory)),
     }
 }
 
-// Whether what is wanted can be told of the case: roots always, and receipts only if the sheet is stable.
+// Whether the wanted text may be written for this case: roots always, and receipts only if the sheet is
+// stable.
 fn is_told(alloc: Global, wanted: Wanted, case: &Case) -> Result<bool, AllocError>
     ensures { IfOk result (IsTold wanted case.now) }
 {
@@ -206,14 +208,14 @@ fn text_told<H: RandomSource>(
     alloc: Global,
     wanted: Wanted,
     case: &Case,
-    given: &ProgrammeLists,
+    given_lists: &ProgrammeLists,
     key: Option<&[u8]>,
     secret: &[u8; 32],
 ) -> Result<Vec<u8>, SealFault>
     requires sheet { HasSheet case.now }
-    requires lists { NameMembers case.now.docket given.now case.now.written }
+    requires lists { NameMembers case.now.docket given_lists.now case.now.written }
     ensures text { IfOk result (λ text. (draft : Draft)
-        → AreListsOf draft given.now case.now.written
+        → AreListsOf draft given_lists.now case.now.written
         → IsTextOf wanted case.now draft (option_copied key.entry) secret.now text.items) }
     ensures fault { IfErr result (IsUntold wanted case.now (option_copied key.entry)) }
 {
@@ -226,7 +228,7 @@ fn text_told<H: RandomSource>(
         Ok(false) => return Err(SealFault::Unstable),
         Err(_) => return Err(SealFault::Files(FilesFault::Memory)),
     }
-    match text_of_case(alloc, wanted, secret, case, given, &names) {
+    match text_of_case(alloc, wanted, secret, case, given_lists, &names) {
         Ok(text) => Ok(text),
         Err(_) => Err(SealFault::Files(FilesFault::Memory)),
     }
@@ -247,13 +249,13 @@ fn full_text<H: RandomSource>(
     ensures fault { IfErr result
         (IsUnmade wanted docket.now (Some sheet.now) (option_copied key.entry)) }
 {
-    let (case, given) = match read_case(rt, alloc, docket, sheet) {
+    let (case, given_lists) = match read_case(rt, alloc, docket, sheet) {
         Ok(read) => read,
         Err(fault) => return Err(SealFault::Files(fault)),
     };
-    // Only the proof needs this call: by its clause the docket is whole.
+    // For the proof alone: the docket is whole.
     let _inst = case.docket().instance();
-    text_told(rt, alloc, wanted, &case, &given, key, secret)
+    text_told(rt, alloc, wanted, &case, &given_lists, key, secret)
 }
 
 // The roots or the receipts, as wanted, from the bytes of a docket and, if there is one, of its sheet.
@@ -313,8 +315,8 @@ pub(crate) fn serve<W: Write, H: RandomSource>(
 }
 
 /// Writes the root of a docket's lists, and if there is a sheet, also that of the result. If there is a key, the list
-/// leaf of each member that it names ends with the real name. Each file is read apart from the others. The secret is
-/// 64 hexadecimal digits. If the fault is not the writer's, nothing was written.
+/// leaf of each member that it names ends with the real name. Each file is read by itself. The secret is 64
+/// hexadecimal digits. If the fault is not the writer's, nothing was written.
 pub fn serve_seal<W: Write, H: RandomSource>(
     rt: &H,
     alloc: Global,
@@ -337,9 +339,9 @@ pub fn serve_seal<W: Write, H: RandomSource>(
     serve(rt, alloc, Wanted::Roots, docket, sheet, key, secret, writer)
 }
 
-/// Writes the receipt of each member, after a row that names the member. If there is a sheet, a receipt has the
-/// result, too, and if there is a key, the real name of each member that it names. Each file is read apart from the
-/// others. A sheet that isn't stable is a fault. If the fault is not the writer's, nothing was written.
+/// Writes the receipt of each member, after a row that names the member. If there is a sheet, a receipt also has
+/// the result. If there is a key, a receipt has the member's real name, if the key names the member. Each file is
+/// read by itself. A sheet that isn't stable is a fault. If the fault is not the writer's, nothing was written.
 pub fn serve_receipts<W: Write, H: RandomSource>(
     rt: &H,
     alloc: Global,

@@ -1,4 +1,4 @@
-//! The texts of leaves: what is sealed of each member before the match, and after it.
+//! The texts of leaves: the texts that are sealed for each member before the match and after it.
 ghost use Rattle.std.specs.Prelude.{◌≡◌, ◌<◌, ◌++◌, ◌∷◌, [], ℕ, List, IfOk, IfSome, None, OnOk, Some, codes, length, map, nat_lt, option_copied, option_map, slice_index_or, true};
 ghost use Rattle.std.specs.List.{list_all, range_with_len};
 ghost use Rattle.docket.specs.Texts.{filled_row, mark_row, programme_name, programme_row, resident_name};
@@ -52,7 +52,7 @@ fn push_residents(
     requires list { list_all (λ r. nat_lt r (length docket.now.residents)) list.now ≡ true }
     ensures { OnOk result (Extends row.old row.new (map (resident_name docket.now) list.now)) }
 {
-    // Only the proof needs this call: by its clause the docket is whole.
+    // For the proof alone: the docket is whole.
     let _inst = docket.instance();
     for k in 0..list.len() {
         push_field(row, docket.resident_name(list[k]).as_bytes())?;
@@ -73,7 +73,7 @@ fn push_choices(
     ensures { OnOk result (Extends row.old row.new
         (map (programme_name docket.now) (list_at lists.now.resident_lists resident))) }
 {
-    // Only the proof needs this call: by its clause the docket is whole.
+    // For the proof alone: the docket is whole.
     let _inst = docket.instance();
     for k in 0..lists.listed_by_resident(resident) {
         let Some(programme) = lists.choice(resident, k) else {
@@ -139,13 +139,13 @@ fn put_ranking(
 fn put_withdrawal_if(
     alloc: Global,
     text: &mut Vec<u8>,
-    gone: bool,
+    withdrawn: bool,
     side: &[u8],
     name: &[u8],
 ) -> Result<(), AllocError>
-    ensures { OnOk result (Grows text.old text.new (withdrawal_if gone side.now name.now)) }
+    ensures { OnOk result (Grows text.old text.new (withdrawal_if withdrawn side.now name.now)) }
 {
-    if gone {
+    if withdrawn {
         put_row(alloc, text, &[b"W", side, name])
     } else {
         Ok(())
@@ -166,23 +166,29 @@ fn put_quota(alloc: Global, text: &mut Vec<u8>, name: &[u8], quota: u32) -> Resu
 fn programme_lists(
     alloc: Global,
     docket: &Docket,
-    given: &ProgrammeLists,
+    given_lists: &ProgrammeLists,
     names: &RealNames,
     programme: ProgrammeNo,
 ) -> Result<Vec<u8>, AllocError>
-    requires given { (p : ℕ) (list : List ℕ) → slice_index_or given.now p None ≡ Some list
+    requires given { (p : ℕ) (list : List ℕ) → slice_index_or given_lists.now p None ≡ Some list
         → list_all (λ r. nat_lt r (length docket.now.residents)) list ≡ true }
     requires programme { IsProgramme docket.now.instance programme }
-    ensures { IfOk result (λ text. (draft : Draft) → given.now ≡ draft.programme_lists
+    ensures { IfOk result (λ text. (draft : Draft) → given_lists.now ≡ draft.programme_lists
         → text.items ≡ spec.programme_lists docket.now draft names.now programme) }
 {
     let name = docket.programme_name(programme).as_bytes();
     let quota = docket.instance().quota(programme);
-    let gone = docket.instance().programme_withdrawn(programme);
+    let withdrawn = docket.instance().programme_withdrawn(programme);
     let mut text = Vec::new(alloc);
     put_quota(alloc, &mut text, name, quota)?;
-    put_ranking(alloc, &mut text, docket, name, given.list_of(programme))?;
-    put_withdrawal_if(alloc, &mut text, gone, b"P", name)?;
+    put_ranking(
+        alloc,
+        &mut text,
+        docket,
+        name,
+        given_lists.list_of(programme),
+    )?;
+    put_withdrawal_if(alloc, &mut text, withdrawn, b"P", name)?;
     put_real(alloc, &mut text, names.programme(programme))?;
     Ok(text)
 }
@@ -202,12 +208,12 @@ fn resident_lists(
         → text.items ≡ spec.resident_lists docket.now draft names.now resident) }
 {
     let name = docket.resident_name(resident).as_bytes();
-    let gone = docket.instance().resident_withdrawn(resident);
+    let withdrawn = docket.instance().resident_withdrawn(resident);
     let mut text = Vec::new(alloc);
     let mut row = record_of(alloc, b"R", name)?;
     push_choices(&mut row, docket, lists, resident)?;
     put_line(&mut text, &row)?;
-    put_withdrawal_if(alloc, &mut text, gone, b"R", name)?;
+    put_withdrawal_if(alloc, &mut text, withdrawn, b"R", name)?;
     put_real(alloc, &mut text, names.resident(resident))?;
     Ok(text)
 }
@@ -217,18 +223,18 @@ fn push_programme_lists(
     alloc: Global,
     texts: &mut Vec<Vec<u8>>,
     docket: &Docket,
-    given: &ProgrammeLists,
+    given_lists: &ProgrammeLists,
     names: &RealNames,
 ) -> Result<(), AllocError>
-    requires given { (p : ℕ) (list : List ℕ) → slice_index_or given.now p None ≡ Some list
+    requires given { (p : ℕ) (list : List ℕ) → slice_index_or given_lists.now p None ≡ Some list
         → list_all (λ r. nat_lt r (length docket.now.residents)) list ≡ true }
     ensures { OnOk result ((draft : Draft)
-        → given.now ≡ draft.programme_lists → texts_of texts.new.items
+        → given_lists.now ≡ draft.programme_lists → texts_of texts.new.items
         ≡ texts_of texts.old.items ++ map (spec.programme_lists docket.now draft names.now)
         (range_with_len 0 (length docket.now.instance.quotas))) }
 {
     for p in 0..docket.instance().programmes() {
-        let text = programme_lists(alloc, docket, given, names, ProgrammeNo(p))?;
+        let text = programme_lists(alloc, docket, given_lists, names, ProgrammeNo(p))?;
         texts.push(text)?;
     }
     Ok(())
@@ -261,16 +267,16 @@ fn push_resident_lists(
 pub(crate) fn lists_texts(
     alloc: Global,
     docket: &Docket,
-    given: &ProgrammeLists,
+    given_lists: &ProgrammeLists,
     lists: &WrittenLists,
     names: &RealNames,
 ) -> Result<Vec<Vec<u8>>, AllocError>
-    requires { NameMembers docket.now given.now lists.now }
-    ensures { IfOk result (λ texts. (draft : Draft) → AreListsOf draft given.now lists.now
+    requires { NameMembers docket.now given_lists.now lists.now }
+    ensures { IfOk result (λ texts. (draft : Draft) → AreListsOf draft given_lists.now lists.now
         → texts_of texts.items ≡ spec.lists_texts docket.now draft names.now) }
 {
     let mut texts = Vec::new(alloc);
-    push_programme_lists(alloc, &mut texts, docket, given, names)?;
+    push_programme_lists(alloc, &mut texts, docket, given_lists, names)?;
     push_resident_lists(alloc, &mut texts, docket, lists, names)?;
     Ok(texts)
 }
@@ -333,8 +339,8 @@ fn put_member(
     )
 }
 
-// The texts of the programmes' result leaves: each one's `F` row, and the `M` rows of its residents in the docket's order.
-// One walk over the residents adds each one's row to the text of the resident's programme.
+// The texts of the programmes' result leaves. Each has the programme's `F` row, and the `M` rows of its residents in
+// the docket's order. One walk over the residents adds each `M` row to the text of its programme.
 fn programme_results(alloc: Global, case: &Case) -> Result<Vec<Vec<u8>>, AllocError>
     requires { HasSheet case.now }
     ensures { IfOk result (λ texts. texts_of texts.items

@@ -16,7 +16,6 @@ use Rattle.settle_law.proofs.Counting.{different_among, different_pass, count_by
 use Rattle.settle_law.proofs.Placements.{same_from_holds, members_of, length-members_of, members_differ, member_from_listed, member_listed}
 use Rattle.settle_law.proofs.NeverRejects.{best_taken, has_turned_down, Standing, SparesAll, offered_is_listed, offered_before, offered_first, crowd_within, best_is_kept}
 
--- if each item of a list has a property, a number that stands in the list has it
 pub at_listed : (P : ℕ → Type 0) (xs : List ℕ) (x : ℕ) → All P xs → IsListed xs x → P x
 at_listed P xs x h l = subst P (get_or-place xs x 0 l) (h (place xs x) 0 l)
 

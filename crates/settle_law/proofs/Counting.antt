@@ -16,7 +16,6 @@ pub one_if_le : (b c : Bool) → (b ≡ true → c ≡ true) → one_if b ≤ on
 one_if_le true c h = rw (h refl) (omega arith)
 one_if_le false c h = omega arith
 
--- if at most one of two tests passes, and each only where a third test passes, their number is at most the third test's
 pub one_if_apart : (b c d : Bool) → (b ≡ true → d ≡ true) → (c ≡ true → d ≡ true) → (b ≡ true → c ≡ true → ⊥) →
     one_if b + one_if c ≤ one_if d
 one_if_apart true true d h k n = absurd (n refl refl)
@@ -24,7 +23,6 @@ one_if_apart true false d h k n = rw (h refl) (omega arith)
 one_if_apart false true d h k n = rw (k refl) (omega arith)
 one_if_apart false false d h k n = omega arith
 
--- if each term of one sum is at most the term of another sum, the first sum is at most the second sum
 pub sum_by-le_listed : (f g : ℕ → ℕ) (xs : List ℕ) → ((x : ℕ) → IsListed xs x → f x ≤ g x) → sum_by f xs ≤ sum_by g xs
 sum_by-le_listed f g [] h = omega arith
 sum_by-le_listed f g (x ∷ xs) h =
@@ -32,7 +30,6 @@ sum_by-le_listed f g (x ∷ xs) h =
     let first : f x ≤ g x = h x (IsListed-cons_same x xs) in
     omega (arith, sum_by-cons f x xs, sum_by-cons g x xs)
 
--- if each term of one sum is at most that of another, and the second sum is at most the first, all terms are equal
 pub same_terms : (f g : ℕ → ℕ) (xs : List ℕ) → ((x : ℕ) → IsListed xs x → f x ≤ g x) → sum_by g xs ≤ sum_by f xs →
     (x : ℕ) → IsListed xs x → f x ≡ g x
 same_terms f g [] h t x l = absurd (IsListed-nil x l)
@@ -46,24 +43,19 @@ same_terms f g (y ∷ ys) h t x l =
       | inr c ↦ same_terms f g ys (λ z m. h z (IsListed-cons y ys z m)) (omega arith) x c
     ]
 
--- a sum is 0 if all its terms are 0
 pub sum_by_zeros : (f : ℕ → ℕ) (xs : List ℕ) → ((x : ℕ) → f x ≡ 0) → sum_by f xs ≡ 0
 sum_by_zeros f [] h = refl
 sum_by_zeros f (x ∷ xs) h = omega (arith, sum_by-cons f x xs, h x, sum_by_zeros f xs h)
 
--- the sum of two functions together is the sum of the first plus the sum of the second
 pub sum_by-plus : (f g : ℕ → ℕ) (xs : List ℕ) → sum_by (λ x. f x + g x) xs ≡ sum_by f xs + sum_by g xs
 sum_by-plus f g [] = refl
 sum_by-plus f g (x ∷ xs) =
     omega (arith, sum_by-plus f g xs, sum_by-cons f x xs, sum_by-cons g x xs, sum_by-cons (λ y. f y + g y) x xs)
 
--- if every item that passes one test passes a second test, the second test counts at least as many items
 pub count_by-le_listed : (f g : ℕ → Bool) (xs : List ℕ) → ((x : ℕ) → IsListed xs x → f x ≡ true → g x ≡ true) →
     count_by f xs ≤ count_by g xs
 count_by-le_listed f g xs h = sum_by-le_listed (λ x. one_if (f x)) (λ x. one_if (g x)) xs (λ x l. one_if_le (f x) (g x) (h x l))
 
--- if no item passes both of two tests, and each passing item passes a third test, the two counts together are at most
--- the third count
 pub count_by-apart : (f g h : ℕ → Bool) (xs : List ℕ) → ((x : ℕ) → f x ≡ true → h x ≡ true) →
     ((x : ℕ) → g x ≡ true → h x ≡ true) → ((x : ℕ) → f x ≡ true → g x ≡ true → ⊥) →
     count_by f xs + count_by g xs ≤ count_by h xs
@@ -86,7 +78,6 @@ count_by-not f (x ∷ xs) =
     both true = refl
     both false = refl
 
--- if some item of a list passes a test, the test counts at least one item
 pub count_by_pos : (f : ℕ → Bool) (xs : List ℕ) (x : ℕ) → IsListed xs x → f x ≡ true → 1 ≤ count_by f xs
 count_by_pos f [] x l p = absurd (IsListed-nil x l)
 count_by_pos f (y ∷ ys) x l p =
@@ -96,7 +87,6 @@ count_by_pos f (y ∷ ys) x l p =
       | inr c ↦ let h = count_by_pos f ys x c p in omega arith
     ]
 
--- If all different numbers of list xs stand in list ys, then xs has at most as many items as ys has items from xs.
 pub different_among : (xs ys : List ℕ) → HasNoRepeats xs → ((x : ℕ) → IsListed xs x → IsListed ys x) →
     length xs ≤ count_by (is_listed xs) ys
 different_among [] ys n h = omega arith
@@ -118,7 +108,6 @@ different_pass xs ys f n h =
     let b = count_by-le_listed (is_listed xs) f ys (λ x l e. (h x (is_listed-true xs x e)).1) in
     omega arith
 
--- a number stands at most once in a list without repeats
 pub count_by-same-le : (xs : List ℕ) (q : ℕ) → HasNoRepeats xs → count_by (λ x. eqb q x) xs ≤ 1
 count_by-same-le xs q n =
     let kept = filter (λ x. eqb q x) xs in

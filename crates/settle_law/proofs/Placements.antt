@@ -62,7 +62,7 @@ member_listed m p r e =
     let w = member_within m r p e in
     filter_keeps (λ s. holds p (programme_of m s)) (range_with_len 0 (length m)) r (range_has 0 (length m) r (omega arith) (omega arith)) (holds_true p (programme_of m r) e)
 
--- among the numbers below n, exactly one is the programme of a resident, if the resident has a programme
+-- if a resident has a programme, exactly one of the numbers below n is this programme
 placed_once : (n : ℕ) (o : Option ℕ) → ((p : ℕ) → o ≡ Some p → p < n) →
     sum_by (λ p. one_if (holds p o)) (range_with_len 0 n) ≡ one_if (is_some o)
 placed_once n None h = sum_by_zeros (λ p. one_if (holds p None)) (range_with_len 0 n) (λ p. refl)

@@ -20,7 +20,6 @@ place_cases y ys x = go (eqb y x) refl
 pub get_or-place : (xs : List ℕ) (x d : ℕ) → IsListed xs x → get_or xs (place xs x) d ≡ x
 get_or-place xs x d l = get_or_from_slice_get xs (place xs x) x d (slice_get_place xs x l)
 
--- if listed item x does not stand after item y and differs from y, then x stands before y
 pub before_from_not_after : (xs : List ℕ) (x y : ℕ) → IsListed xs x → (x ≡ y → ⊥) → (IsBefore xs y x → ⊥) →
     IsBefore xs x y
 before_from_not_after xs x y l n h = elim (cases_lt (place xs x) (place xs y)) [
@@ -42,7 +41,6 @@ place-get_or-le (y ∷ ys) (suc k) d l =
 pub IsListed-get_or : (xs : List ℕ) (k d : ℕ) → k < length xs → IsListed xs (get_or xs k d)
 IsListed-get_or xs k d l = let h = place-get_or-le xs k d l in omega arith
 
--- an item is listed in a list that it was added to in front
 pub IsListed-cons_same : (y : ℕ) (ys : List ℕ) → IsListed (y ∷ ys) y
 IsListed-cons_same y ys = let e = place-head y ys in omega arith
 
@@ -66,7 +64,6 @@ place-append_other (y ∷ xs) ys x n = elim (place_cases y (xs ++ ys) x) [
   | inr d ↦ let h : length xs ≤ place (xs ++ ys) x = place-append_other xs ys x (λ l. n (IsListed-cons y xs x l)) in omega arith
 ]
 
--- a list without items has no repeats
 pub HasNoRepeats-nil : HasNoRepeats []
 HasNoRepeats-nil i j d l m = absurd (omega arith)
 

@@ -23,7 +23,6 @@ pub given_is_programme : (inst : Instance) → IsInstance inst → (m : List (Op
     IsMemberOf m r p → IsProgramme inst p
 given_is_programme inst good m a r p e = acceptable_programme inst good r p (a.pairs_acceptable r p e)
 
--- two tests are equal if they give the same number
 same_tests : (b c : Bool) → one_if b ≡ one_if c → b ≡ c
 same_tests true true e = refl
 same_tests true false e = absurd (omega arith)

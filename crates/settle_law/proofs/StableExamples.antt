@@ -27,7 +27,6 @@ members_at_least m p xs n h =
     let among = different_among xs (members_of m p) n (λ r l. member_listed m p r (h r l)) in
     omega (arith, length-members_of m p, count_by-le-length (is_listed xs) (members_of m p))
 
--- which numbers stand in a list with one item, and in a list with two items
 is_the_one : (a x : ℕ) → IsListed (a ∷ []) x → a ≡ x
 is_the_one a x l = elim (IsListed-cons_cases a [] x l) [ inl c ↦ c | inr c ↦ absurd (IsListed-nil x c) ]
 

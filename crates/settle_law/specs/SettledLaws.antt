@@ -1,5 +1,5 @@
--- Laws of the placement that an exchange gives. Each law is proved as the contract of a function with a like name:
--- `HasSettledLaw` as the contract of `law_has_settled`.
+-- Laws of the placement that a closed exchange gives. Each law is proved as the contract of a function with a like
+-- name: `HasSettledLaw` as the contract of `law_has_settled`.
 use Rattle.std.specs.Prelude.{◌≡◌, ℕ, ◌↔◌, IsSome, IsTrue, List, Option}
 use Rattle.std.specs.List.{All}
 use Rattle.match_model.specs.Instance.{Instance, IsInstance, IsResident, IsProgramme, list_of_resident}

@@ -14,7 +14,7 @@ pub use stopping::{StopsAtOnce, StopsBy, StopsFrom};
 /// How often a gate tests whether another worker has entered an event.
 const TURNS: u32 = 10_000_000;
 
-/// How often a gate tests whether other workers have entered events that may already be done.
+/// How many turns a gate gives the other workers to finish what they have begun.
 const LINGER: u32 = 100;
 
 /// For each of at most eight workers, how many events the worker has entered, as the gate counts them.
@@ -58,18 +58,18 @@ impl Counts {
 
     // Waits until no worker has entered an event for a long time. Returns how many events were entered by then.
     fn at_rest(&self) -> u64 {
-        let mut seen = self.of_all();
+        let mut last_sum = self.of_all();
         let mut turns = 0;
         for _ in 0..TURNS {
-            let now = self.of_all();
-            turns = if now == seen { turns } else { 0 };
-            seen = now;
+            let sum = self.of_all();
+            turns = if sum == last_sum { turns } else { 0 };
+            last_sum = sum;
             if turns >= LINGER {
                 break;
             }
             turns = turns.saturating_add(1);
             thread::yield_now();
         }
-        seen
+        last_sum
     }
 }

@@ -1,4 +1,5 @@
-//! A gate that keeps workers waiting until all is done that can be done without their desks.
+//! A gate that keeps workers waiting until the other workers have done all that they can without
+//! the waiting workers' desks.
 ghost use Rattle.std.specs.Prelude.{true, false};
 
 use exchange_core::Desk;
@@ -22,12 +23,12 @@ const NAP: u64 = 4_000;
 pub enum Until {
     /// Until this many events are entered.
     Entered(u64),
-    /// Until this many calls for residents' desks are made, with this one.
+    /// Until this many calls for residents' desks are made, including the waiting call.
     Takes(u64),
 }
 
-/// Which calls of `pass` a gate keeps waiting, and for what. The numbers follow from the market alone: they say how
-/// much can be done without the desks that are kept.
+/// Which calls of `pass` a gate keeps waiting, and for what. The numbers follow from the market: they say how much
+/// can be done without the desks of the waiting calls.
 #[derive(Clone, Copy, Debug)]
 pub struct Holds {
     /// After the first event, its worker waits until this many events are entered.
@@ -38,7 +39,7 @@ pub struct Holds {
     pub first: (Desk, u64),
     /// The first call for another desk waits until this many events are entered.
     pub other: Option<(Desk, u64)>,
-    /// How many calls for residents' desks wait after the call for the first desk went on, and what they wait for.
+    /// How many calls for residents' desks wait, after the call for the first desk went on, and for what.
     pub next: (u64, Until),
 }
 
@@ -130,7 +131,7 @@ impl<R: Wait + Copy> UntilDone<R> {
         }
     }
 
-    // The number of events until which the first call for the other desk waits, if this is that call; else none.
+    // If this is the first call for the other desk, the number of events until which it waits; else none.
     fn as_other(&self, desk: Desk) -> Option<u64> {
         let (other, events) = self.holds.other?;
         let is_first = desk == other && !self.has_begun_other.swap(true, Ordering::SeqCst);

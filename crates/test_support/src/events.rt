@@ -77,7 +77,7 @@ pub fn nine_events() -> [Event; 9] {
 }
 
 /// The events of an exchange in which X leaves A, a programme with two places, for B. Y takes an offer before X does,
-/// although X was sent one first.
+/// although an offer was sent to X first.
 pub fn nineteen_events() -> [Event; 19] {
     [
         offer(A, X),

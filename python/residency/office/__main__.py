@@ -17,8 +17,8 @@ def ended_early(number: int, frame: object) -> None:
     posix._exit(1)
 
 
-for one in WANTED:
-    _signal.signal(one, ended_early)
+for signal in WANTED:
+    _signal.signal(signal, ended_early)
 _signal.pthread_sigmask(_signal.SIG_UNBLOCK, SIGNALS)
 
 if __name__ == "__main__":
@@ -28,6 +28,6 @@ if __name__ == "__main__":
     from residency.office import main
 
     status = main()
-    for one in WANTED:
-        _signal.signal(one, _signal.SIG_IGN)
+    for signal in WANTED:
+        _signal.signal(signal, _signal.SIG_IGN)
     sys.exit(status)

@@ -100,9 +100,9 @@ def work(number: int, life: int, limits: Limits, step: str, words: Sequence[Any]
     """Does a step in a process that was made for it, and ends the process."""
     status = 1
     try:
-        for one in (*stopping.SIGNALS, signal.SIGIO, signal.SIGXCPU):
-            signal.signal(one, signal.SIG_DFL)
-            signal.pthread_sigmask(signal.SIG_UNBLOCK, (one,))
+        for signum in (*stopping.SIGNALS, signal.SIGIO, signal.SIGXCPU):
+            signal.signal(signum, signal.SIG_DFL)
+            signal.pthread_sigmask(signal.SIG_UNBLOCK, (signum,))
         end_with(life)
         limit(limits)
         from . import steps

@@ -36,10 +36,10 @@ class Rows:
 
 def known_delimiter(word: str) -> str:
     """The delimiter that a word of the command line names: comma, semicolon, tab, bar, or one letter."""
-    one = WORDS.get(word, word)
-    if len(one) != 1 or one in '"\r\n \0' or ord(one) > 127 or one.isalnum():
+    delimiter = WORDS.get(word, word)
+    if len(delimiter) != 1 or delimiter in '"\r\n \0' or ord(delimiter) > 127 or delimiter.isalnum():
         raise OfficeError("setting.delimiter", 2, text=word)
-    return one
+    return delimiter
 
 
 def name_of(cell: str) -> str:

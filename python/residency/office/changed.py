@@ -11,22 +11,22 @@ from .faults import Fault
 def members_of(market: Market, side: str) -> Dict[str, Member]:
     """The members of a side by what the market calls them."""
     there = list(market.quotas) if side == PROGRAMME else list(market.resident_lists)
-    named = {market.names.name(side, one.docket_name): one for one in market.names.members(side)}
+    named = {market.names.name(side, member.docket_name): member for member in market.names.members(side)}
     return {name: named[name] for name in there}
 
 
 def same(before: Mapping[str, Member], now: Mapping[str, Member], exactly: bool) -> Dict[str, str]:
     """By the name of each member that was there before too its name then: by IDs where all have one and the names agree, else by names."""
-    if exactly or not all(one.id for one in (*before.values(), *now.values())):
+    if exactly or not all(member.id for member in (*before.values(), *now.values())):
         return {name: name for name in now if name in before}
-    ids = {one.id: name for name, one in before.items()}
-    return {name: ids[one.id] for name, one in now.items() if one.id in ids and is_one(before[ids[one.id]].name, one.name)}
+    ids = {member.id: name for name, member in before.items()}
+    return {name: ids[member.id] for name, member in now.items() if member.id in ids and is_one(before[ids[member.id]].name, member.name)}
 
 
 def moves(before: Sequence[str], now: Sequence[str]) -> List[Tuple[str, int, int]]:
     """Who stands elsewhere on a list, with the rank before and now, 0 where there is none. Who only makes room for others stays."""
     blocks = SequenceMatcher(None, list(before), list(now), False).get_matching_blocks()
-    stay = {name for one in blocks for name in before[one.a:one.a + one.size]}
+    stay = {name for block in blocks for name in before[block.a:block.a + block.size]}
     ranks = [{name: rank for rank, name in enumerate(listed, 1)} for listed in (before, now)]
     return [(name, ranks[0].get(name, 0), ranks[1].get(name, 0)) for name in dict.fromkeys((*now, *before)) if name not in stay]
 
@@ -47,7 +47,7 @@ def since(before: Market, now: Market, exactly: bool = False) -> List[Fault]:
             if first is None:
                 found.append(("new", what, name, {}))
                 continue
-            moved = moves(lists[side][0].get(first, ()), [other.get(one, one) for one in lists[side][1].get(name, ())])
+            moved = moves(lists[side][0].get(first, ()), [other.get(listed_name, listed_name) for listed_name in lists[side][1].get(name, ())])
             if moved:
                 found.append(("list", what, name, {"moves": moved}))
             if (name in out_now) != (first in out):

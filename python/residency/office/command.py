@@ -105,7 +105,7 @@ def as_text(word: str) -> str:
 def said_of(given: argparse.Namespace) -> Dict[str, object]:
     """The settings that the command line says, by their names."""
     expected = {"programmes": getattr(given, "expect_programmes", None), "residents": getattr(given, "expect_residents", None)}
-    said = {name: [as_text(one) for one in getattr(given, name, [])] for name in settings.SEVERAL}
+    said = {name: [as_text(value) for value in getattr(given, name, [])] for name in settings.SEVERAL}
     by_tables: Dict[str, Callable[[str], object]] = {
         "encoding": known_encoding, "delimiter": known_delimiter, "sheet": as_text, "heading_row": row_number}
     tables = {name: by_table(getattr(given, name, []), known) for name, known in by_tables.items()}
@@ -143,11 +143,11 @@ def row_number(word: str) -> int:
 def by_table(given: Sequence[str], known: Callable[[str], object]) -> Dict[str, object]:
     """What is said for each table; a word without a table's name is for both."""
     said: Dict[str, object] = {}
-    for one in given:
-        table, mark, word = one.partition("=")
+    for setting in given:
+        table, mark, word = setting.partition("=")
         named = bool(mark) and table in TABLES
         for name in (table,) if named else TABLES:
-            said[name] = known(word if named else one)
+            said[name] = known(word if named else setting)
     return said
 
 
@@ -178,17 +178,17 @@ def describe(tables: Sequence[Table], market: Market) -> List[str]:
     programmes, residents = tables
     lines = [f"{how(programmes)}; {counted(len(market.quotas), 'programme')}, {counted(sum(market.quotas.values()), 'place')}",
              f"{how(residents)}; {counted(len(market.resident_lists), 'resident')}"]
-    return lines + [note(one) for table in tables for one in table.notes] + [national.NOTE] * market.is_national
+    return lines + [note(table_note) for table in tables for table_note in table.notes] + [national.NOTE] * market.is_national
 
 
 def read_as_json(read: Read) -> str:
     """All that a check finds, as one line of JSON."""
     places, places_of = read.sheets(), read.market.quotas if read.market is not None else {}
-    tables = [{"table": one.name, "file": one.path, "sha256": one.sha256, "encoding": one.text.encoding, "delimiter": one.rows.delimiter,
-               "sheet": one.rows.sheet, "heading_row": one.heading, "is_long": one.is_long, "members": len(one.entries)}
-              for one in read.tables]
+    tables = [{"table": table.name, "file": table.path, "sha256": table.sha256, "encoding": table.text.encoding, "delimiter": table.rows.delimiter,
+               "sheet": table.rows.sheet, "heading_row": table.heading, "is_long": table.is_long, "members": len(table.entries)}
+              for table in read.tables]
     found = {"tables": tables, "places": sum(places_of.values()), "counts": {kind: count for kind, count in read.faults.counts.items() if count},
-             "faults": [as_dict(one, places) for one in read.faults.every()], "notes": [as_dict(one, places) for one in read.notes()]}
+             "faults": [as_dict(fault, places) for fault in read.faults.every()], "notes": [as_dict(table_note, places) for table_note in read.notes()]}
     return json.dumps(found, ensure_ascii=False)
 
 
@@ -252,7 +252,7 @@ def take_found(found: Settings, look: Look) -> None:
 def remarks_of(look: Look, path: str) -> List[str]:
     """What a settings file says of a table besides: its file, its sheets, and what each column is."""
     first = f"{shown(os.path.basename(path))}: {title_of(look.encoding)}"
-    sheets_there = [f"its sheets: {', '.join(shown(one, 40) for one in look.sheets)}"] if len(look.sheets) > 1 else []
+    sheets_there = [f"its sheets: {', '.join(shown(sheet, 40) for sheet in look.sheets)}"] if len(look.sheets) > 1 else []
     columns = [f"column {column_letters(number)}, {shown(heading, 40)}: {meaning or 'left out'}"
                for number, (heading, meaning) in enumerate(zip(look.headings, look.meanings), 1) if heading]
     return [first, *sheets_there, f"headings in {look.language}", *columns]
@@ -283,7 +283,7 @@ def tell_docket(data: bytes, label: str, given: argparse.Namespace) -> int:
         else:
             more[fault.text] = more.get(fault.text, 0) + 1
     if more:
-        kinds = ", ".join(f"{number:,} {text}" for text, number in sorted(more.items(), key=lambda one: -one[1]))
+        kinds = ", ".join(f"{number:,} {text}" for text, number in sorted(more.items(), key=lambda item: -item[1]))
         say(f"and {sum(more.values()):,} more faults: {kinds} (--all tells each)")
     if is_over:
         say(national.line())
@@ -355,11 +355,11 @@ def template_of(path: Optional[str], columns: Sequence[str]) -> Templates:
     that are kept."""
     if path is None or not os.path.isdir(path):
         return checked_templates(None if path is None else text_of(path), columns)
-    names = [*(one.key for one in Standing), OTHERS, PROGRAMME]
+    names = [*(standing.key for standing in Standing), OTHERS, PROGRAMME]
     found = {name: os.path.join(path, f"{name}.txt") for name in names if os.path.exists(os.path.join(path, f"{name}.txt"))}
     if not found:
         raise OfficeError("template.none", 3, path, files=[f"{name}.txt" for name in names])
-    return checked_templates({name: text_of(one) for name, one in found.items()}, columns)
+    return checked_templates({name: text_of(template) for name, template in found.items()}, columns)
 
 
 def tables_of(given: argparse.Namespace, chosen: Settings, before: Optional[rounds.Before] = None) -> Tuple[Sequence[Table], Market]:
@@ -485,12 +485,12 @@ def published_anew(roots: Roots) -> List[str]:
 def told(out: str, result: running.Matched, wishes: Wishes) -> List[str]:
     """What a run says when it is done."""
     outcome = result.outcome
-    kinds = {one.value: len(outcome.standing(one)) for one in (*UNMATCHED, Standing.WITHDRAWN)}
+    kinds = {standing.value: len(outcome.standing(standing)) for standing in (*UNMATCHED, Standing.WITHDRAWN)}
     counts = [f"{count:,} {kind}" for kind, count in kinds.items() if count]
     matched = len(outcome.standing(Standing.MATCHED))
-    left = sum(one.unfilled for one in outcome.programmes.values())
-    every = [one for _, one in rounds.everybody(outcome, wishes.earlier)]
-    placed = sum(one.programme is not None for one in every)
+    left = sum(programme.unfilled for programme in outcome.programmes.values())
+    every = [resident for _, resident in rounds.everybody(outcome, wishes.earlier)]
+    placed = sum(resident.programme is not None for resident in every)
     return [f"{matched:,} of {len(outcome.residents):,} residents matched" + "".join(f", {count}" for count in counts)
             + f"; {left:,} of {outcome.places():,} places unfilled",
             *[f"after all rounds {placed:,} of {len(every):,} residents have a place"] * bool(wishes.earlier),
@@ -510,7 +510,7 @@ def withdraw(given: argparse.Namespace) -> int:
     wishes, roots = written_without(given, settings_of(given), done, out)
     lines = [f"{shown(name)}: withdrawn" for name in done.gone] + ([] if roots is None else [sealed(out, roots)])
     if done.matched is not None:
-        lines = [one.line() for one in done.changes] + told(out, done.matched, wishes)
+        lines = [change.line() for change in done.changes] + told(out, done.matched, wishes)
     for line in lines + ([] if roots is None else published_anew(roots)):
         say(line)
     return 0
@@ -535,7 +535,7 @@ def compare_command(given: argparse.Namespace) -> int:
     lines = [f"{what}: {was} before, {is_now} now" for what, was, is_now in found.figures]
     summary = compare.summary(found.before.outcome, found.now.outcome, found.changes)
     lines += [summary + ("" if given.names or not found.changes else "; --names lists them")]
-    for line in lines + [one.line() for one in found.changes if given.names]:
+    for line in lines + [change.line() for change in found.changes if given.names]:
         say(line)
     return 0
 
@@ -548,7 +548,7 @@ def letters(given: argparse.Namespace) -> int:
     chosen = settings_of(given)
     written = steps.letters(run_before, template, given.date, chosen.title, language_of(chosen, run_before.language()), chosen.texts())
     if given.preview is not None:
-        for resident in (one for standing in Standing for one in run_before.outcome.standing(standing)[:given.preview]):
+        for resident in (member for standing in Standing for member in run_before.outcome.standing(standing)[:given.preview]):
             say(written.letter(resident))
         for programme in list(run_before.outcome.programmes.values())[:given.preview]:
             say(written.programmes().letter(programme))
@@ -579,7 +579,7 @@ def verify_command(given: argparse.Namespace) -> int:
     if given.tables is not None:
         given.programmes, given.residents = given.tables
         made = FromTables.of(*tables_of(given, settings_of(given, start=steps.read_by(given.folder))))
-    done = steps.verify(given.folder, given.timeout, published, made, lambda one: say(one.line()), after=given.after)
+    done = steps.verify(given.folder, given.timeout, published, made, lambda checked: say(checked.line()), after=given.after)
     say(done.verdict())
     return 4 if done.wrong else 0
 
@@ -588,7 +588,7 @@ def changes_command(given: argparse.Namespace) -> int:
     kept = running.opened(given.folder)
     _, market = tables_of(given, settings_of(given, given.programmes, steps.read_by(given.folder)))
     changes = changed.since(kept.market, market)
-    lists = sum(one.code == "changed.list" for one in changes)
+    lists = sum(change.code == "changed.list" for change in changes)
     for line in [*map(cause, changes), f"{counted(lists, 'list')} changed, of {len([*market.quotas, *market.resident_lists]):,}"]:
         say(line)
     return 0
@@ -598,7 +598,7 @@ def next_command(given: argparse.Namespace) -> int:
     writing.refuse(given.out)
     before = Run(given.folder)
     rounds.write_tables(before, given.out)
-    left, free = sum(len(before.outcome.standing(one)) for one in UNMATCHED), len(before.outcome.unfilled())
+    left, free = sum(len(before.outcome.standing(standing)) for standing in UNMATCHED), len(before.outcome.unfilled())
     say(f"{counted(free, 'programme')} with free places, {counted(left, 'unmatched resident')}; written to {shown(given.out, MOST_OF_PATH)}")
     return 0
 

@@ -43,43 +43,43 @@ class Change:
         return english().say(f"change.{self.what}"), called(self.member), *self.both(english())
 
     def line(self) -> str:
-        one, words = self.member, english()
+        member, words = self.member, english()
         before, now = (shown(said, 300) for said in self.both(words))
-        return f"{shown(called(one), 200)}: {words.say(f'change.{self.what}')}; {before} -> {now}"
+        return f"{shown(called(member), 200)}: {words.say(f'change.{self.what}')}; {before} -> {now}"
 
 
-def figures_of(one: Outcome, phrases: Phrases) -> List[Tuple[str, str]]:
+def figures_of(outcome: Outcome, phrases: Phrases) -> List[Tuple[str, str]]:
     """The ten figures of a match; parts are parts of the residents who take part."""
-    there = one.taking_part()
-    choices = one.choices()
-    kinds = {standing: len(one.standing(standing)) for standing in Standing}
+    there = outcome.taking_part()
+    choices = outcome.choices()
+    kinds = {standing: len(outcome.standing(standing)) for standing in Standing}
     of_all = {"matched": kinds[Standing.MATCHED], "first": sum(choices[:1]), "second": sum(choices[1:2]), "third": sum(choices[2:3]),
               "later": sum(choices[3:]), "lost-out": kinds[Standing.LOST_OUT],
               "not-ranked": kinds[Standing.NOT_RANKED_BACK] + kinds[Standing.RANKED_NOBODY]}
-    programmes = sum(not programme.withdrawn for programme in one.programmes.values())
-    left = sum(programme.unfilled for programme in one.programmes.values())
+    programmes = sum(not programme.withdrawn for programme in outcome.programmes.values())
+    left = sum(programme.unfilled for programme in outcome.programmes.values())
     shares = {what: phrases.say("figure.share", count=count, share=phrases.percent(count, there)) if there else phrases.number(count)
               for what, count in of_all.items()}
     figures = {"taking-part": phrases.number(there), **shares,
-               "programmes": phrases.number(programmes), "left": phrases.say("figure.of", count=left, whole=one.places())}
+               "programmes": phrases.number(programmes), "left": phrases.say("figure.of", count=left, whole=outcome.places())}
     return [(phrases.say(f"figure.{what}"), figure) for what, figure in figures.items()]
 
 
 def keyed(members: Mapping[str, One], others: Mapping[str, One]) -> Dict[str, One]:
     """Members by what they are known by in both matches: their IDs where all have one, else their names."""
-    by_id = all(one.id for one in (*members.values(), *others.values()))
-    return {one.id if by_id else name: one for name, one in members.items()}
+    by_id = all(member.id for member in (*members.values(), *others.values()))
+    return {member.id if by_id else name: member for name, member in members.items()}
 
 
-def stood(one: Union[Resident, Programme, None], phrases: Phrases) -> str:
-    if one is None:
+def stood(member: Union[Resident, Programme, None], phrases: Phrases) -> str:
+    if member is None:
         return phrases.say("change.not-there")
-    if isinstance(one, Programme):
-        return phrases.say("change.withdrawn") if one.withdrawn else phrases.say("change.filled", filled=one.filled, places=one.places)
-    if one.standing is Standing.MATCHED:
-        return phrases.say("change.matched", programme=one.programme, choice=phrases.ordinal(one.choice or 0), count=one.ranked)
-    standing = phrases.say(f"standing.{one.standing.key}")
-    return standing if one.standing is Standing.WITHDRAWN else phrases.say("change.unmatched", standing=standing)
+    if isinstance(member, Programme):
+        return phrases.say("change.withdrawn") if member.withdrawn else phrases.say("change.filled", filled=member.filled, places=member.places)
+    if member.standing is Standing.MATCHED:
+        return phrases.say("change.matched", programme=member.programme, choice=phrases.ordinal(member.choice or 0), count=member.ranked)
+    standing = phrases.say(f"standing.{member.standing.key}")
+    return standing if member.standing is Standing.WITHDRAWN else phrases.say("change.unmatched", standing=standing)
 
 
 def is_one(name: str, other: str) -> bool:
@@ -121,24 +121,24 @@ def changes(before: Outcome, now: Outcome) -> List[Change]:
     people, now_people = keyed(before.residents, now.residents), keyed(now.residents, before.residents)
     found += [Change(of_resident(people.get(key), now_people.get(key), same), people.get(key), now_people.get(key))
               for key in dict.fromkeys([*people, *now_people])]
-    return ordered([one for one in found if one.what], english())
+    return ordered([change for change in found if change.what], english())
 
 
 def ordered(found: Sequence[Change], phrases: Phrases) -> List[Change]:
     """Changes by kind, and each kind by name."""
     order = {what: place for place, what in enumerate(ORDER)}
-    return sorted(found, key=lambda one: (one.side == "programme", order.get(one.what, 0), phrases.alphabetical(one.member.name), one.member.id))
+    return sorted(found, key=lambda change: (change.side == "programme", order.get(change.what, 0), phrases.alphabetical(change.member.name), change.member.id))
 
 
 def summary(before: Outcome, now: Outcome, found: Sequence[Change]) -> str:
     """One line on who stands otherwise, and how they are known."""
-    counts = Counter(one.what for one in found if one.side == "resident")
+    counts = Counter(change.what for change in found if change.side == "resident")
     told = ", ".join(f"{counts[what]:,} {english().say(f'change.{what}')}" for what in ORDER if what in counts) or "nobody stands otherwise"
-    known = "by their IDs" if all(one.id for outcome in (before, now) for one in outcome.residents.values()) else "by their names, since not all have an ID"
+    known = "by their IDs" if all(resident.id for outcome in (before, now) for resident in outcome.residents.values()) else "by their names, since not all have an ID"
     return f"residents {known}: {told}"
 
 
 def changes_table(found: Sequence[Change], phrases: Phrases) -> bytes:
-    rows = [(phrases.say(f"change.{one.side}"), one.member.name, one.member.id, phrases.say(f"change.{one.what}"), *one.both(phrases))
-            for one in ordered(found, phrases)]
+    rows = [(phrases.say(f"change.{change.side}"), change.member.name, change.member.id, phrases.say(f"change.{change.what}"), *change.both(phrases))
+            for change in ordered(found, phrases)]
     return table_bytes(heads(phrases, "side", "name", "id", "change", "before", "now"), rows)

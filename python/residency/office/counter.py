@@ -16,14 +16,14 @@ from .who import the_one
 LETTERS = {"unranked": Became.NOT_RANKED, "matched": Became.MATCHED, "better": Became.NOT_NEEDED}
 
 
-def reason(one: Why, resident: Resident, phrases: Phrases) -> str:
+def reason(why: Why, resident: Resident, phrases: Phrases) -> str:
     """What became of one programme, as it is said to the resident."""
-    if one.answer is None:
+    if why.answer is None:
         return phrases.say("letter.unlisted")
-    if one.answer == "full" and one.last_rank is not None:
-        return phrases.say("letter.full", rank=phrases.ordinal(one.rank or 0), quota=one.quota, last=phrases.ordinal(one.last_rank))
+    if why.answer == "full" and why.last_rank is not None:
+        return phrases.say("letter.full", rank=phrases.ordinal(why.rank or 0), quota=why.quota, last=phrases.ordinal(why.last_rank))
     withdrawn = Became.YOU_WITHDREW if resident.standing is Standing.WITHDRAWN else Became.IT_WITHDREW
-    return phrases.say(f"letter.became.{LETTERS.get(one.answer, Became.NO_PLACES if one.answer == 'full' else withdrawn).key}")
+    return phrases.say(f"letter.became.{LETTERS.get(why.answer, Became.NO_PLACES if why.answer == 'full' else withdrawn).key}")
 
 
 def asked(run: Run, name: str, programme: Optional[str], timeout: float) -> Tuple[Member, Resident, Sequence[Why]]:
@@ -36,8 +36,8 @@ def asked(run: Run, name: str, programme: Optional[str], timeout: float) -> Tupl
 def answer(run: Run, name: str, programme: Optional[str] = None, timeout: float = DEFAULT_TIMEOUT) -> List[str]:
     """Whose answer it is, how the resident stands, and what became of what was asked."""
     phrases, (member, resident, found) = run.language().phrases(), asked(run, name, programme, timeout)
-    rows = [(f"{one.choice}. " if one.choice else "") + phrases.say("letter.row", programme=one.programme, said=reason(one, resident, phrases))
-            for one in found]
+    rows = [(f"{why.choice}. " if why.choice else "") + phrases.say("letter.row", programme=why.programme, said=reason(why, resident, phrases))
+            for why in found]
     return [member.label, " ".join(Letters(run.market, run.outcome, run.about()).said(resident)), *rows]
 
 
@@ -45,4 +45,4 @@ def letter(run: Run, name: str, programme: Optional[str], timeout: float, day: d
     """The answer as a letter to the resident, in the resident's language."""
     _, resident, found = asked(run, name, programme, timeout)
     letters = Letters(run.market, run.outcome, replace(run.about(), day=day), None, "name", run.language().column, run.texts())
-    return letters.letter(resident, [(one.choice or 0, one.programme, reason(one, resident, letters.phrases[resident.name])) for one in found])
+    return letters.letter(resident, [(why.choice or 0, why.programme, reason(why, resident, letters.phrases[resident.name])) for why in found])

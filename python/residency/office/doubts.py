@@ -36,12 +36,12 @@ def tell_lost_letters(table: Table, options: Settings, faults: Faults) -> None:
     """Tells names with a sign where a letter was."""
     found: List[Item] = []
     if not options.allow_lost_letters:
-        found = [one for one in names_of(table) if LOST in one.text or "?" in one.text and ASKED.search(one.text)]
+        found = [item for item in names_of(table) if LOST in item.text or "?" in item.text and ASKED.search(item.text)]
         found += [Item(text, entry.row, cell + 1) for entry in table.entries for cell, text in zip(table.kept_at, entry.kept) if LOST in text]
-    names = list(dict.fromkeys(one.text for one in found))
+    names = list(dict.fromkeys(item.text for item in found))
     values = {"count": len(names), "names": names[:MOST_NAMES]}
-    for one in sorted(found, key=lambda one: (one.row, one.cell)):
-        faults.tell("row.lost-letters", table.name, one.row, one.cell, values, (table.name, "lost"), (Remedy("allow_lost_letters", True),))
+    for item in sorted(found, key=lambda item: (item.row, item.cell)):
+        faults.tell("row.lost-letters", table.name, item.row, item.cell, values, (table.name, "lost"), (Remedy("allow_lost_letters", True),))
 
 
 def bare(name: str) -> str:
@@ -65,10 +65,10 @@ def tell_mails(table: Table, faults: Faults) -> None:
     """Tells names beside which most e-mail addresses have words of other names: a column was sorted alone."""
     names = {entry.row: {*folded(entry.name).split()} for entry in table.entries if entry.mail}
     every = set().union(*names.values())
-    wrong = [one for one in table.entries if one.mail and {*folded(one.mail.partition("@")[0]).split()} & every - names[one.row]]
-    for one in wrong if len(wrong) >= FEW_MAILS and 2 * len(wrong) > len(names) else ():
+    wrong = [entry for entry in table.entries if entry.mail and {*folded(entry.mail.partition("@")[0]).split()} & every - names[entry.row]]
+    for entry in wrong if len(wrong) >= FEW_MAILS and 2 * len(wrong) > len(names) else ():
         values = {"count": len(wrong), "owners": table.owners, "mail": wrong[0].mail, "name": wrong[0].name}
-        faults.tell("row.mail", table.name, one.row, one.cell, values, (table.name, "mail"))
+        faults.tell("row.mail", table.name, entry.row, entry.cell, values, (table.name, "mail"))
 
 
 def note_empty(table: Table, lists: Sequence[Sequence[int]], others: Sequence[Sequence[int]]) -> None:
@@ -76,7 +76,7 @@ def note_empty(table: Table, lists: Sequence[Sequence[int]], others: Sequence[Se
     ranked = Counter(member for listed in others for member in listed)
     empty = [(entry, ranked[index]) for index, (entry, listed) in enumerate(zip(table.entries, lists)) if not listed and ranked[index]]
     if empty:
-        empty.sort(key=lambda one: -one[1])
+        empty.sort(key=lambda counted: -counted[1])
         cells = [Cell(table.name, entry.row, entry.cell) for entry, _ in empty]
         values = {"owners": table.owners, "names": [(entry.name, count) for entry, count in empty]}
         table.notes.append(Fault("note.empty", table.name, cells[0].row, cells[0].column, cells, values))
@@ -109,4 +109,4 @@ def is_remark(entry: Entry, table: Table) -> bool:
     unusual = signs_of(entry.name)
     others = [signs_of(other.name) for other in table.entries[:MOST_COMPARED] if other is not entry]
     few = 4 if "one word" in unusual else 1
-    return len(others) >= few and any(10 * sum(sign in one for one in others) < len(others) for sign in unusual)
+    return len(others) >= few and any(10 * sum(sign in other for other in others) < len(others) for sign in unusual)

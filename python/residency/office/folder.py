@@ -44,7 +44,7 @@ def needs(name: str, parts: Set[str]) -> bool:
 def sums_of(data: bytes) -> Dict[str, str]:
     """The digest that SHA256SUMS has of each file."""
     lines = [line.split("  ", 1) for line in data.decode("utf-8", "replace").split("\n") if "  " in line]
-    return {name: one for one, name in lines}
+    return {name: hex_digest for hex_digest, name in lines}
 
 
 def below(path: str) -> Iterator[str]:
@@ -54,11 +54,11 @@ def below(path: str) -> Iterator[str]:
         at = folders.pop()
         try:
             with os.scandir(at) as found:
-                for one in found:
-                    if one.is_dir(follow_symlinks=False):
-                        folders.append(one.path)
+                for entry in found:
+                    if entry.is_dir(follow_symlinks=False):
+                        folders.append(entry.path)
                     else:
-                        yield one.path
+                        yield entry.path
         except OSError:
             yield at
 
@@ -66,7 +66,7 @@ def below(path: str) -> Iterator[str]:
 def size_of(path: str) -> int:
     """How many bytes the files below a folder have. OfficeError where no match has so many."""
     paths = list(islice(below(path), MOST_FILES + 1))
-    size = sum(os.lstat(one).st_size for one in paths if os.path.lexists(one))
+    size = sum(os.lstat(file).st_size for file in paths if os.path.lexists(file))
     if len(paths) > MOST_FILES or size > MOST_BYTES:
         raise OfficeError("folder.large", 3, path, files=MOST_FILES, megabytes=MOST_BYTES >> 20)
     return size
@@ -74,7 +74,7 @@ def size_of(path: str) -> int:
 
 def files_below(path: Path) -> Dict[str, Path]:
     """Every file below a folder, links too, by its name there."""
-    return {one.relative_to(path).as_posix(): one for one in sorted(map(Path, below(str(path))))}
+    return {file.relative_to(path).as_posix(): file for file in sorted(map(Path, below(str(path))))}
 
 
 def zipped(path: Path) -> bytes:
@@ -84,9 +84,9 @@ def zipped(path: Path) -> bytes:
 
     made = io.BytesIO()
     with zipfile.ZipFile(made, "w", zipfile.ZIP_DEFLATED) as archive:
-        for name, one in files_below(path).items():
-            if not one.is_symlink():
-                archive.write(one, f"{path.name}/{name}")
+        for name, file in files_below(path).items():
+            if not file.is_symlink():
+                archive.write(file, f"{path.name}/{name}")
     return made.getvalue()
 
 

@@ -42,10 +42,10 @@ class Words:
         self.roles = {plain(word): role for role, words in self.known.items() for word in words}
         self.ignored = {plain(word) for word in ignored}
         self.kept = {plain(word): word for word in kept}
-        for one in added:
-            role, _, word = one.partition("=")
+        for setting in added:
+            role, _, word = setting.partition("=")
             if role not in ROLES or not plain(word):
-                raise OfficeError("setting.heading", 2, text=one, roles=ROLES)
+                raise OfficeError("setting.heading", 2, text=setting, roles=ROLES)
             self.roles[plain(bare(role, word))] = role
         ending, ordinals, endings = COUNTS[language]
         self.endings = {*plain(ending).split("|"), ""}
@@ -80,11 +80,11 @@ class Words:
 
     def is_heading(self, cells: List[str]) -> bool:
         """Whether two cells or more are headings that either table may have in one language."""
-        return len([cell for cell in cells if cell]) > 1 and any(one.heads(cells) for one in self.each())
+        return len([cell for cell in cells if cell]) > 1 and any(language.heads(cells) for language in self.each())
 
     def knows(self, cell: str) -> bool:
         """Whether a cell is a heading in some language."""
-        return any(one.role(cell) is not None or one.rank(cell, "") is not None for one in self.each())
+        return any(language.role(cell) is not None or language.rank(cell, "") is not None for language in self.each())
 
     def heads(self, cells: List[str]) -> bool:
         known = sum(bool(cell) and (self.role(cell) is not None or plain(cell) in self.ignored
@@ -314,8 +314,8 @@ def columns_of(table: str, owners: str, row: int, heading: List[str], words: Wor
     fault, or where two languages take it otherwise."""
     readers: List[Reader] = []
     found: List[Optional[Columns]] = []
-    for one in words.each():
-        readers.append(Reader(table, owners, row, heading, one, Faults()))
+    for language in words.each():
+        readers.append(Reader(table, owners, row, heading, language, Faults()))
         found.append(readers[-1].columns())
         if found[-1] is not None and not readers[-1].unknown:
             break
@@ -325,8 +325,8 @@ def columns_of(table: str, owners: str, row: int, heading: List[str], words: Wor
     reader = Reader(table, owners, row, heading, readers[best].words, faults)
     if other is None:
         return reader.columns()
-    first, second = (one.meanings(owners) for one in (found[best], found[other]) if one is not None)
-    cell = next(cell for cell, (one, two) in enumerate(zip(first, second)) if one != two)
+    first, second = (columns.meanings(owners) for columns in (found[best], found[other]) if columns is not None)
+    cell = next(cell for cell, (meaning, two) in enumerate(zip(first, second)) if meaning != two)
     reader.tell(cell + 1, "languages", {"heading": heading[cell], "language": readers[best].words.language, "is": first[cell] or "no column",
                                         "other": readers[other].words.language, "or": second[cell] or "no column"},
                 [Remedy("heading", f"{role}={heading[cell]}") for role in (first[cell], second[cell]) if role in ROLES])

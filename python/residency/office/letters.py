@@ -79,7 +79,7 @@ def checked_template(text: str, columns: Sequence[str] = ()) -> str:
 
 def why_not(became: List[Became], phrases: Phrases) -> str:
     """Why a list led to no place, in one sentence."""
-    counts = [(one.key, count) for one in TOGETHER for count in [became.count(one)] if count]
+    counts = [(reason.key, count) for reason in TOGETHER for count in [became.count(reason)] if count]
     if len(counts) > 1:
         parts = phrases.together(phrases.say(f"letter.part.{key}", count=count) for key, count in counts)
         return phrases.say("letter.why", count=len(became), parts=parts)
@@ -97,21 +97,21 @@ class Letters:
     column says."""
 
     # The file of all letters, how their phrases begin, and the kinds of their templates.
-    page_name, said_by, kinds = LETTERS_PAGE, "letter", tuple(one.key for one in Standing)
+    page_name, said_by, kinds = LETTERS_PAGE, "letter", tuple(standing.key for standing in Standing)
 
     def __init__(self, market: Market, outcome: Outcome, about: About, template: Templates = None, order: str = "name",
                  column: str = "", texts: Mapping[str, str] = MappingProxyType({})) -> None:
         self.outcome, self.about, self.order, self.market, self.given = outcome, about, order, market, (market, outcome, about, template, order)
         self.own: Mapping[str, str] = {OTHERS: template} if isinstance(template, str) else template or {}
         self.texts = {name: str(texts.get(name, "")).replace(NEW_LINE, "\n") for name in TEXTS}
-        self.phrases = {one.name: about.phrases for one in self.members()}
+        self.phrases = {member.name: about.phrases for member in self.members()}
         if column:
             self.phrases.update(spoken(outcome, outcome.columns.index(column), about.phrases))
         spoken_in = list(dict.fromkeys([about.phrases, *self.phrases.values()]))
-        self.templates = {(one.language, kind): self.template(one, kind) for one in spoken_in for kind in self.kinds}
+        self.templates = {(phrases.language, kind): self.template(phrases, kind) for phrases in spoken_in for kind in self.kinds}
         self.forms = {kind: formed(text) for kind, text in self.templates.items()}
-        self.same = {one: self.same_fields(one) for one in spoken_in}
-        self.became = {one: {became.key: one.say(f"letter.became.{became.key}") for became in Became} for one in spoken_in}
+        self.same = {phrases: self.same_fields(phrases) for phrases in spoken_in}
+        self.became = {phrases: {became.key: phrases.say(f"letter.became.{became.key}") for became in Became} for phrases in spoken_in}
         self.row = lru_cache(1 << 14)(self.both_rows)
         self.kept = fields_of(outcome.columns)
         self.lists = Lists(market)
@@ -124,9 +124,9 @@ class Letters:
         """Whom the letters are to."""
         return self.outcome.residents.values()
 
-    def kind(self, one: Any) -> str:
+    def kind(self, member: Any) -> str:
         """Which template is for a member."""
-        return str(one.standing.key)
+        return str(member.standing.key)
 
     def own_of(self, kind: str) -> Optional[str]:
         """The office's own template of a kind."""
@@ -151,25 +151,25 @@ class Letters:
                 UNSALTED: self.about.digests.get("docket.csv", ""), "lists_root": roots.lists if roots else "",
                 "result_root": roots.result if roots else "", "sealed": how_to_check(roots, phrases)}
 
-    def fields(self, one: Any) -> Dict[str, str]:
+    def fields(self, member: Any) -> Dict[str, str]:
         """What the fields of the template stand for, without those that a text and a page write differently."""
-        phrases = self.phrases[one.name]
-        return {**self.same[phrases], "name": one.name, "id": one.id, "listed": str(one.ranked), "docket_name": one.docket_name,
-                **self.own_fields(one, phrases)}
+        phrases = self.phrases[member.name]
+        return {**self.same[phrases], "name": member.name, "id": member.id, "listed": str(member.ranked), "docket_name": member.docket_name,
+                **self.own_fields(member, phrases)}
 
-    def own_fields(self, one: Any, phrases: Phrases) -> Dict[str, str]:
+    def own_fields(self, member: Any, phrases: Phrases) -> Dict[str, str]:
         """Those of a resident alone."""
-        return {"programme": one.programme or "", "choice": phrases.ordinal(one.choice) if one.choice else "", **dict(zip(self.kept, one.kept))}
+        return {"programme": member.programme or "", "choice": phrases.ordinal(member.choice) if member.choice else "", **dict(zip(self.kept, member.kept))}
 
-    def letter(self, one: Any, rows: Optional[Rows] = None) -> str:
+    def letter(self, member: Any, rows: Optional[Rows] = None) -> str:
         """A letter as text, with these rows where they are given."""
         outcome = "\n".join(line if len(line) <= WIDTH and line.isprintable() and line == line.strip() else
-                            textwrap.fill(line, WIDTH, break_long_words=False, break_on_hyphens=False) for line in self.said(one))
-        rows, phrases = self.rows(one) if rows is None else rows, self.phrases[one.name]
+                            textwrap.fill(line, WIDTH, break_long_words=False, break_on_hyphens=False) for line in self.said(member))
+        rows, phrases = self.rows(member) if rows is None else rows, self.phrases[member.name]
         width = max((len(str(number)) for number, _, _ in rows), default=0)
         lines = [f"  {number:>{width}}. {self.row(phrases, name, said)[0]}" for number, name, said in rows]
         listed = "\n".join([phrases.say(f"{self.said_by}.list"), "", *lines]) if rows else phrases.say(f"{self.said_by}.list-empty")
-        return self.forms[phrases.language, self.kind(one)] % {**self.fields(one), "outcome": outcome, "list": listed}
+        return self.forms[phrases.language, self.kind(member)] % {**self.fields(member), "outcome": outcome, "list": listed}
 
     def both_rows(self, phrases: Phrases, name: str, said: str) -> Tuple[str, str]:
         """A row as text, and as a part of the page."""
@@ -177,32 +177,32 @@ class Letters:
         return (phrases.say(key, programme=name, name=name, said=said),
                 phrases.html(key, programme=shown, name=shown, said=html.escape(said, False)) + "</li>")
 
-    def rows(self, one: Any) -> Rows:
+    def rows(self, member: Any) -> Rows:
         """The list as it was matched, with what became of each."""
-        said = self.became[self.phrases[one.name]]
-        return [(choice, programme, said[became.key]) for choice, (programme, became) in enumerate(self.lists.became(one), 1)]
+        said = self.became[self.phrases[member.name]]
+        return [(choice, programme, said[became.key]) for choice, (programme, became) in enumerate(self.lists.became(member), 1)]
 
-    def said(self, one: Any) -> List[str]:
+    def said(self, member: Any) -> List[str]:
         """What the match gave, as lines."""
-        phrases = self.phrases[one.name]
-        if one.standing is Standing.MATCHED:
-            values = {"programme": one.programme, "choice": phrases.ordinal(one.choice or 0), "count": one.ranked}
+        phrases = self.phrases[member.name]
+        if member.standing is Standing.MATCHED:
+            values = {"programme": member.programme, "choice": phrases.ordinal(member.choice or 0), "count": member.ranked}
             return [phrases.filled(line, values) for line in phrases.texts["letter.matched"].split(NEW_LINE)]
-        if one.standing in (Standing.WITHDRAWN, Standing.RANKED_NOBODY):
-            return [phrases.say(f"letter.{one.standing.key}")]
-        return [phrases.say("letter.unmatched", why=why_not([became for _, became in self.lists.became(one)], phrases))]
+        if member.standing in (Standing.WITHDRAWN, Standing.RANKED_NOBODY):
+            return [phrases.say(f"letter.{member.standing.key}")]
+        return [phrases.say("letter.unmatched", why=why_not([became for _, became in self.lists.became(member)], phrases))]
 
-    def article(self, one: Any, form: str, sealed: str) -> str:
+    def article(self, member: Any, form: str, sealed: str) -> str:
         """A letter as a part of the page."""
-        phrases = self.phrases[one.name]
-        fields = {name: html.escape(value) for name, value in self.fields(one).items()}
-        fields.update(name=bdi(one.name), outcome=html.escape(" ".join(self.said(one))), sealed=sealed)
+        phrases = self.phrases[member.name]
+        fields = {name: html.escape(value) for name, value in self.fields(member).items()}
+        fields.update(name=bdi(member.name), outcome=html.escape(" ".join(self.said(member))), sealed=sealed)
         rows = "\n".join((f'<li value="{number}">' if number != count else "<li>") + self.row(phrases, name, said)[1]
-                         for count, (number, name, said) in enumerate(self.rows(one), 1))
+                         for count, (number, name, said) in enumerate(self.rows(member), 1))
         fields["list"] = (f"</p>\n<p>{phrases.html(f'{self.said_by}.list')}</p>\n<ol>\n{rows}\n</ol>\n<p>" if rows
                           else phrases.html(f"{self.said_by}.list-empty"))
-        spoken = "" if phrases is self.about.phrases or self.own_of(self.kind(one)) is not None else lang(phrases)
-        begin = f'<article id="{one.docket_name}"{spoken} aria-label="{html.escape(one.name)}">'
+        spoken = "" if phrases is self.about.phrases or self.own_of(self.kind(member)) is not None else lang(phrases)
+        begin = f'<article id="{member.docket_name}"{spoken} aria-label="{html.escape(member.name)}">'
         return f'{begin}\n{EMPTY.sub("", form % fields)}\n</article>'
 
     def page(self) -> str:
@@ -215,7 +215,7 @@ class Letters:
         for kind, template in self.templates.items():
             parts = re.split(r"\n(?:[ \t]*\n)+", template.strip("\n"))
             forms[kind] = formed("\n".join(f"<p>{html.escape(part)}</p>" for part in parts if part.strip()))
-        sealed = {one: html.escape(how_to_check(self.about.roots, one, None, "")) for one in self.same}
+        sealed = {their_phrases: html.escape(how_to_check(self.about.roots, their_phrases, None, "")) for their_phrases in self.same}
         who = by_name(self.members(), phrases, self.order)
         title = phrases.html("letters.title", title=html.escape(self.about.title), date=self.about.day.isoformat())
         # The words of a template may be in any language.
@@ -223,9 +223,9 @@ class Letters:
         begin, _, end = document(language, title, COLOURS + LETTERS_STYLE, f"<header>\n<h1>{html.escape(self.about.title)}</h1>\n<p>"
                               f"{phrases.html('letters.told', count=len(who))}</p>\n</header>\n<main>\0</main>").rpartition("\0")
         yield begin + "\n" * (not who)
-        for one in who:
-            spoken = self.phrases[one.name]
-            yield "\n" + self.article(one, forms[spoken.language, self.kind(one)], sealed[spoken])
+        for member in who:
+            spoken = self.phrases[member.name]
+            yield "\n" + self.article(member, forms[spoken.language, self.kind(member)], sealed[spoken])
         yield "\n" + end
 
 
@@ -237,34 +237,34 @@ class ProgrammeLetters(Letters):
     def members(self) -> Iterable[Any]:
         return self.outcome.programmes.values()
 
-    def kind(self, one: Any) -> str:
+    def kind(self, member: Any) -> str:
         return PROGRAMME
 
     def own_of(self, kind: str) -> Optional[str]:
         return self.own.get(kind)
 
-    def own_fields(self, one: Any, phrases: Phrases) -> Dict[str, str]:
+    def own_fields(self, member: Any, phrases: Phrases) -> Dict[str, str]:
         return dict.fromkeys(("programme", "choice", *self.kept), "")
 
-    def rows(self, one: Any) -> Rows:
-        ranks = {name: rank for rank, name in enumerate(self.market.programme_lists.get(one.name, ()), 1)}
-        return [(ranks[name], called(self.outcome.residents[name]), "") for name in one.residents]
+    def rows(self, member: Any) -> Rows:
+        ranks = {name: rank for rank, name in enumerate(self.market.programme_lists.get(member.name, ()), 1)}
+        return [(ranks[name], called(self.outcome.residents[name]), "") for name in member.residents]
 
-    def said(self, one: Any) -> List[str]:
-        phrases = self.phrases[one.name]
-        if one.withdrawn or not one.places:
-            return [phrases.say("programme.withdrawn" if one.withdrawn else "programme.no-places")]
-        return [phrases.say("programme.filled", filled=one.filled, places=one.places), *([phrases.say("programme.unfilled", free=one.unfilled)] * bool(one.unfilled))]
+    def said(self, member: Any) -> List[str]:
+        phrases = self.phrases[member.name]
+        if member.withdrawn or not member.places:
+            return [phrases.say("programme.withdrawn" if member.withdrawn else "programme.no-places")]
+        return [phrases.say("programme.filled", filled=member.filled, places=member.places), *([phrases.say("programme.unfilled", free=member.unfilled)] * bool(member.unfilled))]
 
 
 def spoken(outcome: Outcome, column: int, otherwise: Phrases) -> Dict[str, Phrases]:
     """By each resident's name the phrases of the language that this column says. OfficeError for a word that is no language."""
-    known = {word.casefold(): named(one) for one in languages() for word in (one, named(one).called)}
+    known = {word.casefold(): named(language) for language in languages() for word in (language, named(language).called)}
     known.update({"": otherwise, otherwise.language.casefold(): otherwise, otherwise.called.casefold(): otherwise})
-    for one in outcome.residents.values():
-        if one.kept[column].strip().casefold() not in known:
-            raise OfficeError("language.unknown", 3, "", "residents", text=one.kept[column], name=one.name, languages=sorted(known)[1:])
-    return {one.name: known[one.kept[column].strip().casefold()] for one in outcome.residents.values()}
+    for resident in outcome.residents.values():
+        if resident.kept[column].strip().casefold() not in known:
+            raise OfficeError("language.unknown", 3, "", "residents", text=resident.kept[column], name=resident.name, languages=sorted(known)[1:])
+    return {resident.name: known[resident.kept[column].strip().casefold()] for resident in outcome.residents.values()}
 
 
 def how_to_check(roots: Optional[Roots], phrases: Phrases, width: Optional[int] = WIDTH, before: str = "  ") -> str:

@@ -39,7 +39,7 @@ class Parser(argparse.ArgumentParser):
 
 
 def wrapped(*paragraphs: str) -> str:
-    return "\n\n".join(textwrap.fill(one, 78) for one in paragraphs)
+    return "\n\n".join(textwrap.fill(paragraph, 78) for paragraph in paragraphs)
 
 
 def parser() -> argparse.ArgumentParser:
@@ -51,13 +51,13 @@ def parser() -> argparse.ArgumentParser:
     commands = top.add_subparsers(dest="command", metavar="COMMAND", required=True)
     for name, lines in own.items():
         about = [lines[word].format(**VALUES) for word in SOLE[1:] if word in lines]
-        one = commands.add_parser(
+        command = commands.add_parser(
             name, help=about[0][0].lower() + about[0][1:].rstrip("."), description=wrapped(*about),
             epilog=f"example: {CALLED} {lines['example']}\n\n{wrapped(TEXTS['statuses'])}", formatter_class=argparse.RawDescriptionHelpFormatter)
-        either = one.add_mutually_exclusive_group(required=True) if any(line.endswith(" either") for line in lines) else one
+        either = command.add_mutually_exclusive_group(required=True) if any(line.endswith(" either") for line in lines) else command
         for line, text in words_of(lines):
             words, more = word_of(line)
-            (either if line.endswith(" either") else one).add_argument(words, help=text.format(**VALUES), **more)
+            (either if line.endswith(" either") else command).add_argument(words, help=text.format(**VALUES), **more)
     return top
 
 

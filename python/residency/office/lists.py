@@ -64,7 +64,7 @@ def is_likely(text: str, near: str) -> bool:
     words, others = folded(text).split(), folded(near).split()
     if len(words) != len(others):
         return True
-    return any(all(edits(one, other, 2) <= (len(one) >= 4) + (len(one) >= 8) for one, other in zip(first, second))
+    return any(all(edits(word, other, 2) <= (len(word) >= 4) + (len(word) >= 8) for word, other in zip(first, second))
                for first, second in ((words, others), (sorted(words), sorted(others))))
 
 
@@ -115,7 +115,7 @@ class Joiner:
                                      {"name": item.text, "owner": entry.name, "what": what, "number": number})
             elif meant:
                 values = {"count": len(meant), "owners": directory.table.owners, "name": item.text,
-                          "ids": tuple(directory.table.entries[one].id for one in meant[:4])}
+                          "ids": tuple(directory.table.entries[row].id for row in meant[:4])}
                 self.faults.tell("twice.meant", table.name, item.row, item.cell, values, (table.name, "several", item.text))
             else:
                 self.unknown.setdefault((table.name, item.text), []).append(item)
@@ -138,7 +138,7 @@ class Joiner:
 
     def tell_together(self, table: str, items: Sequence[Item], code: str, values: Values) -> None:
         """Tells one cause of many names that no row has."""
-        for item in sorted(items, key=lambda one: (one.row, one.cell)):
+        for item in sorted(items, key=lambda each_item: (each_item.row, each_item.cell)):
             self.faults.tell(code, table, item.row, item.cell, values, (table, code))
 
     def told_where(self, table: str, directory: Directory, unknown: Dict[str, List[Item]], meant: Callable[[str], str],
@@ -147,7 +147,7 @@ class Joiner:
         found = [text for text in unknown if meant(text) != text and directory.find(meant(text))]
         if found:
             ids = "IDs" if any(entry.id == meant(found[0]) for entry in directory.table.entries) else "names"
-            first = min((unknown[text][0] for text in found), key=lambda one: (one.row, one.cell))
+            first = min((unknown[text][0] for text in found), key=lambda item: (item.row, item.cell))
             self.tell_together(table, [item for text in found for item in unknown[text]], code, {
                 "things": ids, "text": first.text, "meant": meant(first.text), "owners": directory.table.owners})
         return found
@@ -261,8 +261,8 @@ def market_of(programmes: Table, residents: Table, faults: Faults, options: Sett
     of_programmes = [names.name(PROGRAMME, member.docket_name) for member in names.members(PROGRAMME)]
     of_residents = [names.name(RESIDENT, member.docket_name) for member in names.members(RESIDENT)]
     market = Market({name: entry.places or 0 for name, entry in zip(of_programmes, programmes.entries)},
-                    {name: [of_residents[one] for one in listed] for name, listed in zip(of_programmes, programme_lists)},
-                    {name: [of_programmes[one] for one in listed] for name, listed in zip(of_residents, resident_lists)},
+                    {name: [of_residents[number] for number in listed] for name, listed in zip(of_programmes, programme_lists)},
+                    {name: [of_programmes[number] for number in listed] for name, listed in zip(of_residents, resident_lists)},
                     names=names, most=NATIONAL)
     gone = [[name for name, entry in zip(called, table.entries) if entry.withdrawn]
             for called, table in ((of_programmes, programmes), (of_residents, residents))]
@@ -277,9 +277,9 @@ def note_alone(table: Table, lists: List[List[int]], others: List[List[int]], fa
         if not entry.items and doubts.is_remark(entry, table):
             faults.tell("row.remark", table.name, entry.row, entry.cell, {"name": entry.name}, remedies=(Remedy("allow_alone", True),))
     if alone:
-        values = {"owners": table.owners, "names": [(one.name, one.row) for one in alone]}
+        values = {"owners": table.owners, "names": [(lone_entry.name, lone_entry.row) for lone_entry in alone]}
         table.notes.append(Fault("note.alone", table.name, alone[0].row, alone[0].cell,
-                                 [Cell(table.name, one.row, one.cell) for one in alone], values))
+                                 [Cell(table.name, lone_entry.row, lone_entry.cell) for lone_entry in alone], values))
 
 
 def note_shared(table: Table) -> None:
@@ -289,6 +289,6 @@ def note_shared(table: Table) -> None:
         named.setdefault(entry.name, []).append(entry)
     shared = [those for those in named.values() if len(those) > 1]
     if shared:
-        cells = [Cell(table.name, one.row, one.cell) for those in shared for one in those]
-        values = {"names": [(those[0].name, [one.id for one in those]) for those in shared]}
+        cells = [Cell(table.name, twin.row, twin.cell) for those in shared for twin in those]
+        values = {"names": [(those[0].name, [twin.id for twin in those]) for those in shared]}
         table.notes.append(Fault("note.shared", table.name, cells[0].row, cells[0].column, cells, values))

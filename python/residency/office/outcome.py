@@ -100,22 +100,22 @@ class Outcome:
     columns: Tuple[str, ...] = ()
 
     def standing(self, standing: Standing) -> List[Resident]:
-        return [one for one in self.residents.values() if one.standing is standing]
+        return [resident for resident in self.residents.values() if resident.standing is standing]
 
     def choices(self) -> List[int]:
         """How many residents got their first choice, their second, and so on."""
-        counts = Counter(one.choice for one in self.residents.values() if one.choice is not None)
+        counts = Counter(resident.choice for resident in self.residents.values() if resident.choice is not None)
         return [counts[choice] for choice in range(1, max(counts, default=0) + 1)]
 
     def unfilled(self) -> List[Programme]:
-        return [one for one in self.programmes.values() if one.unfilled]
+        return [programme for programme in self.programmes.values() if programme.unfilled]
 
     def taking_part(self) -> int:
         """How many residents aren't withdrawn."""
-        return sum(one.standing is not Standing.WITHDRAWN for one in self.residents.values())
+        return sum(resident.standing is not Standing.WITHDRAWN for resident in self.residents.values())
 
     def places(self) -> int:
-        return sum(one.places for one in self.programmes.values() if not one.withdrawn)
+        return sum(programme.places for programme in self.programmes.values() if not programme.withdrawn)
 
 
 def outcome_of(market: Market, places: Mapping[str, Optional[str]], details: Details = Details()) -> Outcome:
@@ -128,7 +128,7 @@ def outcome_of(market: Market, places: Mapping[str, Optional[str]], details: Det
     members: Dict[str, List[Tuple[int, str]]] = {programme: [] for programme in market.quotas}
     for name, listed in market.resident_lists.items():
         programme = places.get(name)
-        back = [one for one in listed if one not in gone_programmes and name in ranks.get(one, {})]
+        back = [listed_name for listed_name in listed if listed_name not in gone_programmes and name in ranks.get(listed_name, {})]
         choice = rank = None
         if programme is not None:
             choice, rank = list(listed).index(programme) + 1, ranks[programme][name]
@@ -143,20 +143,20 @@ def outcome_of(market: Market, places: Mapping[str, Optional[str]], details: Det
         taken = sorted(members[name])
         made = market.names.docket_name(PROGRAMME, name)
         last, ranked = taken[-1][0] if taken else None, len(market.programme_lists.get(name, ()))
-        programmes[name] = Programme(name, market.names.id(PROGRAMME, made), made, quota, tuple(one for _, one in taken),
+        programmes[name] = Programme(name, market.names.id(PROGRAMME, made), made, quota, tuple(member for _, member in taken),
                                      last, ranked, name in gone_programmes)
     return Outcome(residents, programmes, details.columns)
 
 
-def called(one: Union[Resident, Programme]) -> str:
+def called(member: Union[Resident, Programme]) -> str:
     """A member's name, with its ID where it has one that isn't in the name."""
-    return one.name if not one.id or one.name.endswith(f"({one.id})") else f"{one.name} ({one.id})"
+    return member.name if not member.id or member.name.endswith(f"({member.id})") else f"{member.name} ({member.id})"
 
 
-def name_key(one: Union[Resident, Programme], phrases: Phrases) -> Tuple[Tuple[str, str], Tuple[str, str]]:
+def name_key(member: Union[Resident, Programme], phrases: Phrases) -> Tuple[Tuple[str, str], Tuple[str, str]]:
     """What a member is sorted by: the family name first, where there is one."""
-    whole = phrases.alphabetical(one.name)
-    family = getattr(one, "family", "")
+    whole = phrases.alphabetical(member.name)
+    family = getattr(member, "family", "")
     return phrases.alphabetical(family) if family else whole, whole
 
 
@@ -165,7 +165,7 @@ Member = TypeVar("Member", Resident, Programme)
 
 def by_name(members: Iterable[Member], phrases: Phrases, order: str = "name") -> Sequence[Member]:
     """Members in the order that is asked for: by name as the language sorts them, or as the table has them."""
-    return sorted(members, key=lambda one: name_key(one, phrases)) if order == "name" else list(members)
+    return sorted(members, key=lambda member: name_key(member, phrases)) if order == "name" else list(members)
 
 
 class Lists:

@@ -108,22 +108,22 @@ class Page:
     def in_order(self, members: Sequence[Union[Programme, Resident]]) -> str:
         if self.order != "name":
             return self.said("by-table")
-        return self.said("by-family-name" if any(getattr(one, "family", "") for one in members) else "by-name")
+        return self.said("by-family-name" if any(getattr(member, "family", "") for member in members) else "by-name")
 
     def unfilled(self) -> str:
-        short = [one for one in self.programmes if one.unfilled]
+        short = [programme for programme in self.programmes if programme.unfilled]
         if not short:
             return section("unfilled", self.said("unfilled"), f"<p>{self.said('all-filled')}</p>")
-        rows = (row(label(one), self.number(one.places), self.number(one.filled), self.number(one.unfilled, "n short")) for one in short)
-        told = self.said("unfilled-told", left=sum(one.unfilled for one in short), places=self.outcome.places(), programmes=len(short),
+        rows = (row(label(programme), self.number(programme.places), self.number(programme.filled), self.number(programme.unfilled, "n short")) for programme in short)
+        told = self.said("unfilled-told", left=sum(programme.unfilled for programme in short), places=self.outcome.places(), programmes=len(short),
                          order=self.in_order(short))
         return section("unfilled", self.said("unfilled"),
                        table(told, self.heads("programme", ".places", ".filled", ".unfilled"), rows, "stack open"))
 
     def figures(self) -> str:
-        counts = [(one, len(self.outcome.standing(one))) for one in (Standing.MATCHED, *UNMATCHED)]
+        counts = [(standing, len(self.outcome.standing(standing))) for standing in (Standing.MATCHED, *UNMATCHED)]
         counts += [(Standing.WITHDRAWN, len(self.withdrawn))] if self.withdrawn else []
-        boxes = "".join(f"<div><dt>{self.said(f'figure.{one.key}')}</dt><dd>{self.number(count)[1]}</dd></div>" for one, count in counts)
+        boxes = "".join(f"<div><dt>{self.said(f'figure.{standing.key}')}</dt><dd>{self.number(count)[1]}</dd></div>" for standing, count in counts)
         return section("figures", self.said("figures"), f'<dl class="figures">{boxes}</dl>')
 
     def choices(self) -> str:
@@ -157,40 +157,40 @@ class Page:
 
     @staticmethod
     def list_of(members: Iterable[Union[Resident, Programme]]) -> str:
-        return '<ul class="names">\n' + "\n".join(f"<li>{label(one)}</li>" for one in members) + "\n</ul>"
+        return '<ul class="names">\n' + "\n".join(f"<li>{label(member)}</li>" for member in members) + "\n</ul>"
 
     def gone(self) -> str:
-        programmes = [one for one in self.programmes if one.withdrawn]
+        programmes = [programme for programme in self.programmes if programme.withdrawn]
         sides: List[Tuple[str, Sequence[Union[Resident, Programme]]]] = [("residents", self.withdrawn), ("programmes", programmes)]
         parts = [f"{self.titled(self.said(title), len(who))}\n{self.list_of(who)}" for title, who in sides if who]
         return section("withdrawn", self.said("withdrawn"), *(parts or [self.nobody()]))
 
     def residents(self) -> str:
-        rows = (row(label(one), ("", label(self.outcome.programmes[one.programme or ""])),
-                    ("n", self.said("choice-of", choice=self.ordinal(one.choice or 0), count=one.ranked))) for one in self.matched)
+        rows = (row(label(resident), ("", label(self.outcome.programmes[resident.programme or ""])),
+                    ("n", self.said("choice-of", choice=self.ordinal(resident.choice or 0), count=resident.ranked))) for resident in self.matched)
         told = self.said("matched-told", count=len(self.matched), order=self.in_order(self.matched))
         return section("matched", self.said("matched"), table(told, self.heads("resident", "programme", ".choice"), rows, "stack matched"))
 
-    def last_taken(self, one: Programme) -> str:
+    def last_taken(self, programme: Programme) -> str:
         """The last rank that a full programme took; one with unfilled places took all who wanted it, so no rank was the last."""
-        if one.withdrawn or not one.places:
+        if programme.withdrawn or not programme.places:
             return "–"
-        return self.said("open") if one.unfilled else self.rank_of(one)
+        return self.said("open") if programme.unfilled else self.rank_of(programme)
 
-    def rank_of(self, one: Programme) -> str:
-        return self.said("choice-of", choice=self.ordinal(one.last_rank or 0), count=one.ranked)
+    def rank_of(self, programme: Programme) -> str:
+        return self.said("choice-of", choice=self.ordinal(programme.last_rank or 0), count=programme.ranked)
 
-    def programme_row(self, one: Programme) -> List[Tuple[str, str]]:
+    def programme_row(self, programme: Programme) -> List[Tuple[str, str]]:
         """What a programme's row has; its head is the first."""
-        name = self.said("is-withdrawn", name=label(one)) if one.withdrawn else label(one)
-        return [("", name), self.number(one.places), self.number(one.filled), self.number(one.unfilled, "n short" if one.unfilled else "n")]
+        name = self.said("is-withdrawn", name=label(programme)) if programme.withdrawn else label(programme)
+        return [("", name), self.number(programme.places), self.number(programme.filled), self.number(programme.unfilled, "n short" if programme.unfilled else "n")]
 
     def programmes_told(self) -> str:
         return self.said("programmes-told", count=len(self.programmes), order=self.in_order(self.programmes))
 
     def all_programmes(self) -> str:
         heads = self.heads("programme", ".places", ".filled", ".unfilled", ".last-taken")
-        rows = (row(head[1], *cells, ("n", self.last_taken(one))) for one in self.programmes for head, *cells in [self.programme_row(one)])
+        rows = (row(head[1], *cells, ("n", self.last_taken(programme))) for programme in self.programmes for head, *cells in [self.programme_row(programme)])
         told = f"{self.programmes_told()}; {self.said('last-taken-told')}"
         return section("programmes", self.said("programmes"), table(told, heads, rows, "stack programmes"))
 

@@ -33,7 +33,7 @@ BEHIND = "\uffff"
 
 
 def parts(text: str, mark: str) -> List[str]:
-    return [one.strip() for one in text.split(mark) if one.strip()]
+    return [part.strip() for part in text.split(mark) if part.strip()]
 
 
 def values_in(text: str) -> Set[str]:
@@ -42,8 +42,8 @@ def values_in(text: str) -> Set[str]:
 
 def pairs(text: str, mark: str) -> List[List[str]]:
     """Parts of two words each. ValueError for another."""
-    found = [one.split(None, 1) for one in parts(text, mark)]
-    if any(len(one) != 2 for one in found):
+    found = [part.split(None, 1) for part in parts(text, mark)]
+    if any(len(pair) != 2 for pair in found):
         raise ValueError(text)
     return found
 
@@ -58,7 +58,7 @@ class Phrases:
         self.months = parts(texts["months"], ",")
         self.ordinals = pairs(texts[ORDINALS], ";")
         after = pairs(texts["sorted-after"], ",")
-        self.after = str.maketrans({letter: other + BEHIND * [one for _, one in after[:place + 1]].count(other)
+        self.after = str.maketrans({letter: other + BEHIND * [earlier for _, earlier in after[:place + 1]].count(other)
                                     for place, (letter, other) in enumerate(after)})
 
     def say(self, key: str, **values: Any) -> str:
@@ -73,8 +73,8 @@ class Phrases:
         words = cut(text)
         said = words[:1]
         for at in range(1, len(words), 3):
-            one, forms = values[words[at]], words[at + 1]
-            said += (forms.split("|")[self.form(one)] if forms is not None else self.number(one) if isinstance(one, int) else str(one), words[at + 2])
+            value, forms = values[words[at]], words[at + 1]
+            said += (forms.split("|")[self.form(value)] if forms is not None else self.number(value) if isinstance(value, int) else str(value), words[at + 2])
         return "".join(said)
 
     def number(self, number: int) -> str:
@@ -123,8 +123,8 @@ def is_value(key: str, said: str) -> bool:
         "plurals": lambda: said in PLURALS,
         "thousands": lambda: said in THOUSANDS,
         "months": lambda: len(parts(said, ",")) == 12,
-        "sorted-after": lambda: all(len(part) == 1 for one in pairs(said, ",") for part in one),
-        ORDINALS: lambda: all(ORDINAL.fullmatch(one) for one, _ in pairs(said, ";")) and pairs(said, ";")[-1][0] == "*",
+        "sorted-after": lambda: all(len(part) == 1 for pair in pairs(said, ",") for part in pair),
+        ORDINALS: lambda: all(ORDINAL.fullmatch(ordinal) for ordinal, _ in pairs(said, ";")) and pairs(said, ";")[-1][0] == "*",
     }
     try:
         return holds[key]() if key in holds else True
@@ -153,7 +153,7 @@ def read_phrases(text: str, label: str) -> Phrases:
     for key, (line, said) in found.items():
         code = wrong(key, said, known[key], forms)
         if code:
-            values = {"name": key, "forms": forms, "values": [f"{{{one}}}" for one in sorted(values_in(known[key]))]}
+            values = {"name": key, "forms": forms, "values": [f"{{{value}}}" for value in sorted(values_in(known[key]))]}
             faults.tell(code, label, line, None, values)
     missing = [key for key in known if key not in found]
     if missing:
@@ -164,7 +164,7 @@ def read_phrases(text: str, label: str) -> Phrases:
 
 
 def languages() -> List[str]:
-    return sorted(one.stem for one in FOLDER.glob("*.txt"))
+    return sorted(path.stem for path in FOLDER.glob("*.txt"))
 
 
 @lru_cache(maxsize=None)
@@ -195,12 +195,12 @@ class Language:
 
     def entry(self) -> Dict[str, Any]:
         """What a manifest keeps of it; nothing of English for all."""
-        return {} if self == Language() else {"language": {word: one for word, one in vars(self).items() if one}}
+        return {} if self == Language() else {"language": {word: value for word, value in vars(self).items() if value}}
 
     @classmethod
     def of(cls, manifest: Mapping[str, Any]) -> "Language":
         """What a manifest kept. ValueError for what `entry` doesn't give."""
         said = manifest.get("language", {})
-        if not isinstance(said, dict) or not set(said) <= {"name", "own", "column"} or not all(isinstance(one, str) for one in said.values()):
+        if not isinstance(said, dict) or not set(said) <= {"name", "own", "column"} or not all(isinstance(value, str) for value in said.values()):
             raise ValueError("language")
         return cls(**said)

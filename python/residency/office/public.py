@@ -36,9 +36,9 @@ class PublicPage(Page):
         super().__init__(outcome, about, order)
         self.roots, self.cut_offs, self.parts = roots, cut_offs, PARTS
 
-    def rank_of(self, one: Programme) -> str:
+    def rank_of(self, programme: Programme) -> str:
         """The last rank, without how many the list has."""
-        return self.ordinal(one.last_rank or 0)
+        return self.ordinal(programme.last_rank or 0)
 
     def all_programmes(self) -> str:
         if self.cut_offs:
@@ -62,7 +62,7 @@ class PublicPage(Page):
 
 def cut_offs(page: PublicPage) -> bytes:
     """The last rank that each programme took, or that it is open."""
-    rows = [(one.name, one.id, one.places, one.filled, html.unescape(page.last_taken(one))) for one in page.programmes]
+    rows = [(programme.name, programme.id, programme.places, programme.filled, html.unescape(page.last_taken(programme))) for programme in page.programmes]
     return rosters.table_bytes(rosters.heads(page.phrases, "programme", "id", "places", "filled", "last-taken"), rows)
 
 

@@ -64,11 +64,11 @@ def fault_of(manifest: Any) -> str:
     wrong = [name for name, kind in kinds.items() if name in manifest and not isinstance(manifest[name], kind)]
     wrong += [name for name in ("title", "date", "program", "withdrawn", "sha256") if name not in manifest]
     own = manifest.get("template")
-    if not isinstance(own, (str, type(None))) and not (isinstance(own, dict) and all(isinstance(one, str) for one in own.values())):
+    if not isinstance(own, (str, type(None))) and not (isinstance(own, dict) and all(isinstance(value, str) for value in own.values())):
         wrong.append("template")
     if "letter" not in wrong and any(name not in TEXTS or not isinstance(text, str) for name, text in manifest.get("letter", {}).items()):
         wrong.append("letter")
-    if any(not (isinstance(one, list) and len(one) == 2 and all(isinstance(part, str) for part in one)) for one in
+    if any(not (isinstance(pair, list) and len(pair) == 2 and all(isinstance(part, str) for part in pair)) for pair in
            (manifest["withdrawn"] if "withdrawn" not in wrong else [])):
         wrong.append("withdrawn")
     return f"its {wrong[0]} is none that office wrote" if wrong else ""
@@ -113,7 +113,7 @@ def befores(market: Market) -> Iterator[Market]:
 
 def before_of(market: Market, wanted: str) -> Market:
     """The market before the last withdrawals, by its docket's digest. OfficeError where there is none."""
-    found = next((one for one in befores(market) if digest(one.docket()) == wanted), None)
+    found = next((earlier for earlier in befores(market) if digest(earlier.docket()) == wanted), None)
     if found is None:
         raise OfficeError("before.no-way", table=folder.MANIFEST)
     return found
@@ -201,5 +201,5 @@ def came_from(source: Source, result: Optional[Matched]) -> Optional[bytes]:
 def own_names(market: Market) -> Names:
     """The names of a market's members alone, in the docket's order: what a key has to have, and no more."""
     docket = market.in_docket_names()
-    by_name = {(one.side, one.docket_name): one for one in market.names.members()}
+    by_name = {(member.side, member.docket_name): member for member in market.names.members()}
     return Names([by_name[PROGRAMME, name] for name in docket.quotas] + [by_name[RESIDENT, name] for name in docket.resident_lists])

@@ -55,24 +55,24 @@ def roster(outcome: Outcome, programme: Programme, ranks: Sequence[str], phrases
     """A programme's residents, in the order of its list, each with the rank there."""
     rank = {name: place for place, name in enumerate(ranks, 1)}
     residents = [outcome.residents[name] for name in programme.residents]
-    rows = [(rank[one.name], one.name, one.id, *one.kept) for one in residents]
+    rows = [(rank[resident.name], resident.name, resident.id, *resident.kept) for resident in residents]
     return members_table([*heads(phrases, "rank", "resident", "id"), *outcome.columns], rows, 2)
 
 
 def unfilled(outcome: Outcome, phrases: Phrases) -> bytes:
     """The programmes with unfilled places, by name."""
-    rows = [(one.name, one.id, one.places, one.filled, one.unfilled) for one in by_name(outcome.unfilled(), phrases)]
+    rows = [(programme.name, programme.id, programme.places, programme.filled, programme.unfilled) for programme in by_name(outcome.unfilled(), phrases)]
     return members_table(heads(phrases, "programme", "id", "quota", "filled", "free"), rows, 1)
 
 
 def matches(outcome: Outcome) -> bytes:
     """A row for each resident, in the order of the table, for programs: raw, so that names are as the tables have them."""
     rows: List[Sequence[object]] = []
-    for one in outcome.residents.values():
-        programme = outcome.programmes[one.programme] if one.programme is not None else None
-        rows.append((one.docket_name, one.id, one.name, one.standing.value,
-                     programme.docket_name if programme else "", programme.id if programme else "", one.programme,
-                     one.choice, one.rank, one.ranked, one.family, *one.kept))
+    for resident in outcome.residents.values():
+        programme = outcome.programmes[resident.programme] if resident.programme is not None else None
+        rows.append((resident.docket_name, resident.id, resident.name, resident.standing.value,
+                     programme.docket_name if programme else "", programme.id if programme else "", resident.programme,
+                     resident.choice, resident.rank, resident.ranked, resident.family, *resident.kept))
     return raw_bytes((*MATCH_COLUMNS, *outcome.columns), rows)
 
 
@@ -92,7 +92,7 @@ def rows_below(data: bytes) -> Tuple[List[str], List[List[str]]]:
 def details_of(data: bytes, market: Names, is_matched: bool) -> Details:
     """The family names and kept columns of a table that `matches` wrote, or `details_table` with fewer columns before those that are
     kept, in the names of a market."""
-    names, before = {one.docket_name: market.name(RESIDENT, one.docket_name) for one in market.members(RESIDENT)}, len(
+    names, before = {member.docket_name: market.name(RESIDENT, member.docket_name) for member in market.members(RESIDENT)}, len(
         MATCH_COLUMNS if is_matched else DETAIL_COLUMNS)
     heading, rows = rows_below(data)
     return Details({names[row[0]]: row[before - 1] for row in rows if row[before - 1]}, tuple(heading[before:]),

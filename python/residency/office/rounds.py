@@ -31,14 +31,14 @@ def tables_of(run: "Run") -> Dict[str, bytes]:
     """The tables of the next round, each a workbook: the programmes with their free places, and the residents who are unmatched, with
     empty lists as long as the longest list was. OfficeError where there are none of either."""
     outcome, phrases, market = run.outcome, run.language().phrases(), run.market
-    programmes, left = outcome.unfilled(), [one for one in outcome.residents.values() if one.standing in UNMATCHED]
+    programmes, left = outcome.unfilled(), [resident for resident in outcome.residents.values() if resident.standing in UNMATCHED]
     if not programmes or not left:
         raise OfficeError("round.none", 3, run.at, what="unmatched resident" if programmes else "free place")
-    names = {(one.side, one.docket_name): one.name for one in run.names.members()}
-    parted = all(one.family and names[RESIDENT, one.docket_name].endswith(f" {one.family}") for one in left)
-    first: List[List[object]] = [[names[PROGRAMME, one.docket_name], one.id, one.unfilled] for one in programmes]
-    second: List[List[object]] = [[*([name[:-len(one.family) - 1], one.family] if parted else [name]), one.id, *one.kept]
-                                  for one in left for name in [names[RESIDENT, one.docket_name]]]
+    names = {(member.side, member.docket_name): member.name for member in run.names.members()}
+    parted = all(resident.family and names[RESIDENT, resident.docket_name].endswith(f" {resident.family}") for resident in left)
+    first: List[List[object]] = [[names[PROGRAMME, programme.docket_name], programme.id, programme.unfilled] for programme in programmes]
+    second: List[List[object]] = [[*([name[:-len(resident.family) - 1], resident.family] if parted else [name]), resident.id, *resident.kept]
+                                  for resident in left for name in [names[RESIDENT, resident.docket_name]]]
     made = {}
     for table, rows, known, lists, most in ((TABLES[0], first, heads(phrases, "programme", "id", "places"), market.programme_lists, len(left)),
                                             (TABLES[1], second, [*heads(phrases, *(("given", "family") if parted else ("applicant",)), "id"), *outcome.columns],
@@ -82,7 +82,7 @@ def earlier_of(run: "Run") -> bytes:
 def resident_of(row: Row, columns: Sequence[str]) -> Resident:
     """A resident as a row has it, with what stands in these columns."""
     made, id, name, standing, _, _, programme, *numbers, family = row.cells
-    choice, rank, ranked = (int(one) if one else None for one in numbers)
+    choice, rank, ranked = (int(number) if number else None for number in numbers)
     return Resident(name, id, made, Standing(standing), programme or None, choice, rank, ranked or 0, family,
                     tuple(row.kept.get(column, "") for column in columns))
 
@@ -90,17 +90,17 @@ def resident_of(row: Row, columns: Sequence[str]) -> Resident:
 def everybody(outcome: Outcome, earlier: bytes) -> List[Tuple[int, Resident]]:
     """Each resident of all rounds with the last round of theirs: known by ID where all have one, and else by name."""
     before = rows_of(earlier)
-    every = [*((row.number, resident_of(row, outcome.columns)) for row in before), *((number_of(before), one) for one in outcome.residents.values())]
-    by_id = all(one.id for _, one in every)
-    return list({one.id if by_id else one.name: (number, one) for number, one in every}.values())
+    every = [*((row.number, resident_of(row, outcome.columns)) for row in before), *((number_of(before), resident) for resident in outcome.residents.values())]
+    by_id = all(resident.id for _, resident in every)
+    return list({resident.id if by_id else resident.name: (number, resident) for number, resident in every}.values())
 
 
 def results(outcome: Outcome, phrases: Phrases, order: str, earlier: bytes) -> bytes:
     """A row for each resident, for a spreadsheet: who is where, by which choice, and how all others stand; after a second round each
     resident of all rounds, with the round that gave the place."""
-    numbers = {one: number for number, one in everybody(outcome, earlier)}
-    rows = [(one.name, one.id, phrases.say(f"standing.{one.standing.key}"), one.programme, one.choice,
-             *[numbers[one] if one.programme else ""] * bool(earlier), *one.kept) for one in by_name(numbers, phrases, order)]
+    numbers = {resident: number for number, resident in everybody(outcome, earlier)}
+    rows = [(resident.name, resident.id, phrases.say(f"standing.{resident.standing.key}"), resident.programme, resident.choice,
+             *[numbers[resident] if resident.programme else ""] * bool(earlier), *resident.kept) for resident in by_name(numbers, phrases, order)]
     names = ("resident", "id", "standing", "programme", "choice", *["round"] * bool(earlier))
     return members_table([*heads(phrases, *names), *outcome.columns], rows, 1)
 
@@ -120,9 +120,9 @@ class Before:
     def __init__(self, run: "Run") -> None:
         self.at, self.earlier, self.entry = run.at, earlier_of(run), {"after": run.digests()}
         full = {row.cells[6]: Stood(row.cells[6], row.cells[5], "", 0) for row in rows_of(self.earlier) if row.cells[6]}
-        programmes = {one.name: Stood(one.name, one.id, "", one.unfilled) for one in run.outcome.programmes.values()}
+        programmes = {programme.name: Stood(programme.name, programme.id, "", programme.unfilled) for programme in run.outcome.programmes.values()}
         self.known = {PROGRAMME: list({**full, **programmes}.values()),
-                      RESIDENT: [Stood(one.name, one.id, one.programme or "", 0) for _, one in everybody(run.outcome, run.earlier())]}
+                      RESIDENT: [Stood(resident.name, resident.id, resident.programme or "", 0) for _, resident in everybody(run.outcome, run.earlier())]}
 
     def faults(self, market: Market, allow_new: bool, tables: Sequence[Table] = ()) -> Faults:
         """Who may not take part: who is matched, who has more places than stayed free, whose ID was another's, and who is new, unless
@@ -130,28 +130,28 @@ class Before:
         found = Faults()
         for number, side in enumerate((PROGRAMME, RESIDENT)):
             members = members_of(market, side)
-            by_id = all(one.id for one in members.values()) and all(one.id for one in self.known[side])
-            known = {one.id if by_id else one.name: one for one in self.known[side]}
-            near, new = NearNames(one.name for one in known.values()), []
+            by_id = all(member.id for member in members.values()) and all(member.id for member in self.known[side])
+            known = {member.id if by_id else member.name: member for member in self.known[side]}
+            near, new = NearNames(member.name for member in known.values()), []
             for index, name in enumerate(members):
                 cell = (tables[number].entries[index].row, tables[number].entries[index].cell) if tables else (None, None)
-                one = known.get(members[name].id if by_id else name)
-                code = self.fault(one, members[name], market.quotas.get(name, 0) if side == PROGRAMME else 0)
-                if one is None and allow_new:
+                stood = known.get(members[name].id if by_id else name)
+                code = self.fault(stood, members[name], market.quotas.get(name, 0) if side == PROGRAMME else 0)
+                if stood is None and allow_new:
                     new.append(name)
                 elif code:
                     values = {"name": name, "at": self.at, "near": near.near(name), "id": members[name].id, "places": market.quotas.get(name)}
-                    code += "-near" if one is None and values["near"] else ""
-                    found.tell(code, TABLES[number], *cell, {**values, **({"was": one.name, "place": one.place, "free": one.free} if one else {})})
+                    code += "-near" if stood is None and values["near"] else ""
+                    found.tell(code, TABLES[number], *cell, {**values, **({"was": stood.name, "place": stood.place, "free": stood.free} if stood else {})})
             if new and tables:
                 tables[number].notes.append(Fault("note.new", TABLES[number], values={"names": new, "at": self.at}))
         return found
 
     @staticmethod
-    def fault(one: Optional[Stood], now: Member, places: int) -> str:
+    def fault(stood: Optional[Stood], now: Member, places: int) -> str:
         """The code of what keeps a member from taking part, or no text."""
-        if one is None:
+        if stood is None:
             return "name.new"
-        if not is_one(one.name, now.name) and not is_one(one.name, now.label):
+        if not is_one(stood.name, now.name) and not is_one(stood.name, now.label):
             return "name.other-before"
-        return "name.matched" if one.place else "places.free" if places > one.free else ""
+        return "name.matched" if stood.place else "places.free" if places > stood.free else ""

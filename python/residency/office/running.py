@@ -98,14 +98,14 @@ def fill(draft: Draft, result: Matched, wishes: Wishes, manifest: Dict[str, Any]
     if "after" in manifest:
         draft.write(folder.EARLIER, wishes.earlier)
     draft.write(folder.UNFILLED, rosters.unfilled(outcome, about.phrases))
-    names = file_names((one.docket_name for one in outcome.programmes.values()), ".csv")
+    names = file_names((member.docket_name for member in outcome.programmes.values()), ".csv")
     for programme in outcome.programmes.values():
         ranks = result.market.programme_lists.get(programme.name, ())
         draft.write(f"{folder.ROSTERS}/{names[programme.docket_name]}", rosters.roster(outcome, programme, ranks, about.phrases))
     letters = Letters(result.market, outcome, about, wishes.template, wishes.order, wishes.language.column, wishes.texts)
     write_letters(draft, letters, folder.LETTERS + "/")
     write_letters(draft, letters.programmes(), folder.ROSTERS + "/")
-    details = ["family_name"] * any(one.family for one in outcome.residents.values()) + list(outcome.columns)
+    details = ["family_name"] * any(resident.family for resident in outcome.residents.values()) + list(outcome.columns)
     draft.finish({**begun(wishes, result.program), **wishes.settings(), **manifest, **ended(result.market, details, roots)})
     return roots
 
@@ -141,9 +141,9 @@ def fill_sealed(draft: Draft, market: Market, details: Details, wishes: Wishes, 
 
 def write_letters(draft: Draft, letters: Letters, inside: str) -> int:
     """Writes each member's letter, and the page of all of them, and answers how many there are."""
-    names = file_names((one.docket_name for one in letters.members()), ".txt")
-    for one in letters.members():
-        draft.write(inside + names[one.docket_name], letters.letter(one).encode("utf-8"))
+    names = file_names((member.docket_name for member in letters.members()), ".txt")
+    for member in letters.members():
+        draft.write(inside + names[member.docket_name], letters.letter(member).encode("utf-8"))
     draft.write(letters.page_name, (part.encode("utf-8") for part in letters.parts()))
     return len(names)
 
@@ -261,7 +261,7 @@ def withdrawn(run: Kept, programmes: Sequence[str], residents: Sequence[str], ei
     whose owner is withdrawn already."""
     gone: Dict[str, List[str]] = {PROGRAMME: [], RESIDENT: []}
     before = {PROGRAMME: set(run.market.withdrawn_programmes), RESIDENT: set(run.market.withdrawn_residents)}
-    named = [(one, "") for one in either] + [(one, PROGRAMME) for one in programmes] + [(one, RESIDENT) for one in residents]
+    named = [(docket_name, "") for docket_name in either] + [(programme, PROGRAMME) for programme in programmes] + [(resident, RESIDENT) for resident in residents]
     for text, side in named:
         try:
             member = the_one(run.names, text, side)

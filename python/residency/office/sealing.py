@@ -22,11 +22,11 @@ def refuse_alike(names: Names) -> None:
     """OfficeError where a docket's name tells a reader not whose it is: another's has the same letters, or the name has none."""
     for side in SIDES:
         first: Dict[str, Member] = {}
-        for one in names.members(side):
-            (own,) = docket_names([one.name], side.lower()).values()
-            other = first.setdefault(own, one)
-            if not one.id and (other is not one or own == side.lower()):
-                raise OfficeError("seal.alike", 3, table=SIDES[side], name=one.name, made=one.docket_name, other=other.name, others=other.docket_name)
+        for member in names.members(side):
+            (own,) = docket_names([member.name], side.lower()).values()
+            other = first.setdefault(own, member)
+            if not member.id and (other is not member or own == side.lower()):
+                raise OfficeError("seal.alike", 3, table=SIDES[side], name=member.name, made=member.docket_name, other=other.name, others=other.docket_name)
 
 
 def seal(out: str, market: Market, details: Details, wishes: Wishes, manifest: Dict[str, object]) -> Roots:
@@ -49,8 +49,8 @@ class OtherTables(OfficeError):
 
 def refuse_others(sealed: Kept, now: Market) -> None:
     """OtherTables where tables say otherwise than what was sealed; who withdrew since may stand in a column."""
-    found = [replace(one, code=f"sealed{one.code[7:]}") if one.code == "changed.withdrawn" else one
-             for one in changed.since(sealed.market, now, True) if one.code != "changed.back"]
+    found = [replace(change, code=f"sealed{change.code[7:]}") if change.code == "changed.withdrawn" else change
+             for change in changed.since(sealed.market, now, True) if change.code != "changed.back"]
     if found:
         raise OtherTables(sealed.at, found)
 

@@ -55,7 +55,7 @@ class Told:
         if isinstance(value, int):
             return str(value) if how == "d" else counted(value, *how.split("|")) if how else f"{value:,}"
         most = int(how) if how else self.most
-        return ", ".join(shown(one, most) for one in value) if isinstance(value, (list, tuple)) else shown(value, most)
+        return ", ".join(shown(item, most) for item in value) if isinstance(value, (list, tuple)) else shown(value, most)
 
 
 def parted(rows: Rows) -> str:
@@ -113,14 +113,14 @@ def shared(values: Values) -> str:
 
 def listed(members: Sequence[Member]) -> str:
     """The labels of members, ten at most, on each side of which there are some."""
-    there = [(side, those) for side in SIDES for those in [[one for one in members if one.side == side]] if those]
+    there = [(side, those) for side in SIDES for those in [[member for member in members if member.side == side]] if those]
     return ", ".join(f"{SIDES[side]} {naming.labels(those)}" if len(there) > 1 else naming.labels(those) for side, those in there)
 
 
 def several(values: Values) -> str:
     found = values["members"]
-    both = len({one.side for one in found}) > 1
-    how = "give the ID" if all(one.id for one in found) else "say --programme or --resident" if both else "give the docket's name"
+    both = len({member.side for member in found}) > 1
+    how = "give the ID" if all(member.id for member in found) else "say --programme or --resident" if both else "give the docket's name"
     return f"{len(found):,} members may be meant by {Told(values['name'])}: {listed(found)}; {how}; nothing was written"
 
 
@@ -237,7 +237,7 @@ def elsewhere(fault: Fault) -> str:
     also = fault.cells[1:1 + MOST_PLACES]
     if not also:
         return ""
-    named = ", ".join(f"{'' if one.table == fault.table else one.table + ' '}{column_letters(one.column)}{one.row}" for one in also)
+    named = ", ".join(f"{'' if cell.table == fault.table else cell.table + ' '}{column_letters(cell.column)}{cell.row}" for cell in also)
     more = len(fault.cells) - 1 - len(also)
     return f" (also in {named}{f' and ' + counted(more, 'more cell') if more > 0 else ''})"
 
@@ -277,7 +277,7 @@ def report(faults: Faults, all_of_them: bool = False) -> List[str]:
 
 def at_desk(faults: Sequence[Fault], sheets: Mapping[str, str]) -> List[Dict[str, Any]]:
     """The first of these faults or notes as JSON has them, in the desk's words."""
-    return [as_dict(one, sheets, as_sentence(DESK[one.code], one.values)) for one in faults[:MOST_AT_DESK]]
+    return [as_dict(fault, sheets, as_sentence(DESK[fault.code], fault.values)) for fault in faults[:MOST_AT_DESK]]
 
 
 def faults_at_desk(faults: Faults, sheets: Mapping[str, str]) -> Dict[str, Any]:
@@ -298,8 +298,8 @@ def as_dict(fault: Fault, sheets: Mapping[str, str], said: str = "") -> Dict[str
     return {
         "kind": fault.kind, "code": fault.code, "table": fault.table, "sheet": sheets.get(fault.table), "row": fault.row,
         "column": fault.column, "cause": said or cause(fault), "values": dict(fault.values),
-        "cells": [{"table": one.table, "row": one.row, "column": one.column, "name": f"{column_letters(one.column)}{one.row}"}
-                  for one in fault.cells],
-        "remedies": [{"setting": one.setting, "value": one.value, **({"table": one.table} if one.table else {})}
-                     for one in fault.remedies],
+        "cells": [{"table": cell.table, "row": cell.row, "column": cell.column, "name": f"{column_letters(cell.column)}{cell.row}"}
+                  for cell in fault.cells],
+        "remedies": [{"setting": remedy.setting, "value": remedy.value, **({"table": remedy.table} if remedy.table else {})}
+                     for remedy in fault.remedies],
     }

@@ -54,7 +54,7 @@ class Settings:
 
     def texts(self) -> Dict[str, str]:
         """What is said of every letter."""
-        return {name: one for name, one in (("sender", self.sender), ("appeals", self.appeals), ("signature", self.signature)) if one}
+        return {name: value for name, value in (("sender", self.sender), ("appeals", self.appeals), ("signature", self.signature)) if value}
 
     def kept(self) -> List[str]:
         """The columns of residents to keep."""
@@ -132,7 +132,7 @@ def read_settings(text: str, label: str) -> Settings:
     for line, section, name, value in lines_of(text, label, faults):
         setting = SETTINGS.get(name)
         if setting is None or section not in section_of(setting):
-            others = [one for one, other in SETTINGS.items() if section in section_of(other)]
+            others = [other_name for other_name, other in SETTINGS.items() if section in section_of(other)]
             faults.tell("file.setting-unknown", label, line, None, {"name": name, "section": section, "settings": others})
         elif (section, name) in seen and name not in SEVERAL:
             faults.tell("file.setting-twice", label, line, None, {"name": name, "section": section})
@@ -163,9 +163,9 @@ def values_of(settings: Settings) -> Dict[str, Dict[str, Any]]:
     for name, setting in SETTINGS.items():
         value, otherwise = getattr(settings, name), getattr(Settings(), name)
         for section in section_of(setting):
-            one = value.get(section) if isinstance(value, dict) else value
-            if one not in (None, otherwise):
-                said[section][name] = one
+            said_here = value.get(section) if isinstance(value, dict) else value
+            if said_here not in (None, otherwise):
+                said[section][name] = said_here
     return {section: values for section, values in said.items() if values}
 
 
@@ -177,8 +177,8 @@ def from_values(said: Mapping[str, Mapping[str, Any]]) -> Settings:
             for name, value in values.items():
                 if section not in section_of(SETTINGS[name]) or isinstance(value, list) != (name in SEVERAL):
                     raise ValueError(name)
-                for one in value if isinstance(value, list) else [value]:
-                    put(found, section, name, SETTINGS[name].reads(word_of(name, one)))
+                for item in value if isinstance(value, list) else [value]:
+                    put(found, section, name, SETTINGS[name].reads(word_of(name, item)))
     except (AttributeError, LookupError, TypeError, OfficeError) as error:
         raise ValueError(str(error)) from None
     return found
@@ -198,10 +198,10 @@ def file_text(settings: Settings, remarks: Mapping[str, List[str]]) -> str:
     lines = ["# The settings of the office's command. A line that begins with # says nothing; take the # away to say what it says.",
              "# What is said on the command line stands in place of what is said here."]
     for section in SECTIONS:
-        lines += ["", f"[{section}]", *(f"# {one}" for one in remarks.get(section, []))]
+        lines += ["", f"[{section}]", *(f"# {remark}" for remark in remarks.get(section, []))]
         for name, setting in SETTINGS.items():
             if section in section_of(setting):
                 value = said.get(section, {}).get(name)
                 words = [] if value is None else value if isinstance(value, list) else [word_of(name, value)]
-                lines += [f"# {setting.about}", *(f"{name} = {one}" for one in words), *([] if words else [f"#{name} ="])]
+                lines += [f"# {setting.about}", *(f"{name} = {word}" for word in words), *([] if words else [f"#{name} ="])]
     return "\n".join(lines) + "\n"

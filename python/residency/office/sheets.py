@@ -194,7 +194,7 @@ class Book:
                     names.append((more.get("name", ""), target, more.get("state", "visible") == "visible"))
 
         self.parse(self.main, start)
-        titles = [one[0] for one in names]
+        titles = [name[0] for name in names]
         at_most(len(names), MOST_SHEETS, "sheets")
         for kind, target in self.targets.values():
             if kind == "sharedStrings" and target in self.names:
@@ -202,13 +202,13 @@ class Book:
             if kind == "styles" and target in self.names:
                 self.formats = self.styles(target)
         if wanted is not None:
-            chosen = [one for one in names if one[0].casefold() == wanted.casefold()]
+            chosen = [name for name in names if name[0].casefold() == wanted.casefold()]
             if not chosen:
                 raise BadBook("no-sheet", {"sheet": wanted, "sheets": titles})
             return self.read(*chosen[0][:2], titles)
-        sheets = [one for one in (self.read(name, target, titles) for name, target, visible in names if visible) if one.rows]
+        sheets = [sheet for sheet in (self.read(name, target, titles) for name, target, visible in names if visible) if sheet.rows]
         if len(sheets) > 1:
-            raise BadBook("sheets", {"sheets": [one.name for one in sheets]})
+            raise BadBook("sheets", {"sheets": [sheet.name for sheet in sheets]})
         return sheets[0] if sheets else Sheet(names[0][0] if names else "")
 
     def texts(self, name: str) -> List[str]:

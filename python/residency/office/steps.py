@@ -102,7 +102,7 @@ class Look:
         """All of it that is shown, as JSON has it, with so many columns, and the word by which each would be a rank's."""
         headings = list(self.headings)[:most]
         shown = {name: getattr(self, name) for name in ("encoding", "delimiter", "sheet", "sheets", "heading_row", "meanings")}
-        return {**shown, "title": title_of(self.encoding), "headings": headings, "bare": [bare("rank", one) for one in headings],
+        return {**shown, "title": title_of(self.encoding), "headings": headings, "bare": [bare("rank", heading) for heading in headings],
                 "rows": [(number, row[:most]) for number, row in (*self.preview, *self.more)]}
 
 
@@ -177,7 +177,7 @@ def looked_at(given: Given, name: str, settings: Settings, progress: Progress = 
     look.preview = list(islice(rows.rows, MOST_PREVIEW))
     if wanted is not None:
         below = list(rows.rows)
-        look.more, rows.rows = [one for one in below if one[0] in wanted][:MOST_AT_FAULT], iter(below)
+        look.more, rows.rows = [row for row in below if row[0] in wanted][:MOST_AT_FAULT], iter(below)
     if look.heading_row:
         rows.rows = chain(look.preview, rows.rows)
         columns = headed(name, OWNERS[name], look.heading_row, list(look.headings), rows, words, look.faults)
@@ -203,12 +203,12 @@ def seen(given: Mapping[str, Given], settings: Settings, progress: Progress = qu
     for fault in done.faults.every()[:MOST_IN_ROWS]:
         for cell in fault.cells:
             rows[cell.table].add(cell.row)
-    return Seen(done, {name: looked_at(one, name, settings, progress, rows[name]) for name, one in given.items()})
+    return Seen(done, {name: looked_at(table, name, settings, progress, rows[name]) for name, table in given.items()})
 
 
 def see(given: Mapping[str, Given], settings: Settings, progress: Progress = quietly, limits: Optional[Limits] = None) -> Seen:
     """Reads the tables that are there, one or both, in a process of its own, for whoever mends them."""
-    most = limits or Limits.of(sum(len(one.data) for one in given.values()))
+    most = limits or Limits.of(sum(len(table.data) for table in given.values()))
     try:
         done = apart(most, "seen", (given, settings), progress)
     except Costly as costly:
@@ -327,7 +327,7 @@ class Compared:
 def compare(before: Run, now: Run, progress: Progress = quietly) -> Compared:
     """Compares two matches."""
     progress("compare")
-    pairs = zip(*(changes_of.figures_of(one.outcome, english()) for one in (before, now)))
+    pairs = zip(*(changes_of.figures_of(run.outcome, english()) for run in (before, now)))
     return Compared(before, now, [(what, was, is_now) for (what, was), (_, is_now) in pairs],
                     changes_of.changes(before.outcome, now.outcome))
 
@@ -390,7 +390,7 @@ def reading_of(path: str, progress: Progress) -> Settings:
     try:
         manifest = json.loads((Path(path) / folder.MANIFEST).read_bytes().decode("utf-8"))
         found = from_values(manifest.get("reading", {}))
-        found.keep = found.keep or [str(one) for one in manifest.get("details", []) if one != "family_name"]
+        found.keep = found.keep or [str(detail) for detail in manifest.get("details", []) if detail != "family_name"]
         return found
     except (OSError, ValueError, AttributeError, TypeError, KeyError, RecursionError, ResidencyError):
         return Settings()

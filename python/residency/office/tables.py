@@ -334,14 +334,14 @@ class Members:
                 entry.places = 0
         if self.gaps:
             values = {"count": len(self.gaps), "name": self.gaps[0].text, "row": self.gaps[0].row}
-            self.note("note.gaps", [Cell(self.table.name, one.row, one.cell) for one in self.gaps], values)
+            self.note("note.gaps", [Cell(self.table.name, gap.row, gap.cell) for gap in self.gaps], values)
         if not self.table.entries and not len(self.faults):
             self.tell("file.no-rows", self.table.heading + 1, self.columns.owner, {"owners": self.table.owners})
         self.note_hidden()
         if self.columns.withdrawn is not None:
             gone = [entry for entry in self.table.entries if entry.withdrawn]
-            cells = [Cell(self.table.name, one.row, one.cell) for one in gone] or [Cell(self.table.name, self.table.heading, self.columns.withdrawn + 1)]
-            self.note("note.withdrawn", cells, {"heading": self.head[self.columns.withdrawn], "names": [one.name for one in gone]})
+            cells = [Cell(self.table.name, gone_entry.row, gone_entry.cell) for gone_entry in gone] or [Cell(self.table.name, self.table.heading, self.columns.withdrawn + 1)]
+            self.note("note.withdrawn", cells, {"heading": self.head[self.columns.withdrawn], "names": [gone_entry.name for gone_entry in gone]})
         if self.blank:
             columns = sorted(cell + 1 for cell in self.blank)
             self.note("note.blank-columns", [Cell(self.table.name, self.table.heading, column) for column in columns], {"columns": columns})
@@ -352,14 +352,14 @@ class Members:
 
     def note_hidden(self) -> None:
         """Notes hidden rows, each with its member, and hidden columns with something in them, each with its heading."""
-        rows, columns = self.table.rows.hidden, [one for one in self.table.rows.hidden_columns if one <= self.columns.width]
+        rows, columns = self.table.rows.hidden, [column for column in self.table.rows.hidden_columns if column <= self.columns.width]
         named = {entry.row: entry.name for entry in self.table.entries}
         if rows:
             self.note("note.hidden", [Cell(self.table.name, row, self.columns.owner + 1) for row in rows],
                       {"rows": [(row, named.get(row, "")) for row in rows]})
         if columns:
-            self.note("note.hidden-columns", [Cell(self.table.name, self.table.heading, one) for one in columns],
-                      {"columns": [(one, cell_of(self.head, one - 1)) for one in columns]})
+            self.note("note.hidden-columns", [Cell(self.table.name, self.table.heading, column) for column in columns],
+                      {"columns": [(column, cell_of(self.head, column - 1)) for column in columns]})
 
     def note(self, code: str, cells: List[Cell], values: Values) -> None:
         self.table.notes.append(Fault(code, self.table.name, cells[0].row, cells[0].column, cells, values))
@@ -377,11 +377,11 @@ class Members:
         """Tells that some members have an ID and others none. A column of IDs without any says nothing."""
         if not self.by_id:
             self.without_id = []
-        names = {one.text for one in self.without_id}
+        names = {item.text for item in self.without_id}
         values = {"count": len(names), "of": len({entry.name for entry in self.table.entries}), "owners": self.table.owners,
                   "name": min(names, default="")}
-        for one in self.without_id:
-            self.tell("file.some-ids", one.row, one.cell - 1, values, ("some ids",))
+        for item in self.without_id:
+            self.tell("file.some-ids", item.row, item.cell - 1, values, ("some ids",))
 
     def gap(self, entry: Entry, ranks: Dict[int, Item]) -> None:
         """Ranks that don't count on may mean a row that is lost, or a name that is misspelt in one of the rows."""
@@ -407,7 +407,7 @@ def opened(data: bytes, name: str, words: Words, options: Settings, faults: Faul
             rows = Rows(tidied(sheet.rows, Cells(name, "", faults)), "", False, sheet.name, sheet.names, sheet.hidden, sheet.hidden_columns)
             return Text("", "xlsx"), rows, []
     except sheets.BadBook as fault:
-        remedies = [Remedy("sheet", one, name) for one in fault.values.get("sheets", ())]
+        remedies = [Remedy("sheet", sheet_name, name) for sheet_name in fault.values.get("sheets", ())]
         faults.tell(fault.code, name, None, None, {**fault.values, "table": name}, remedies=remedies)
         return Text("", "utf-8"), Rows(iter(()), ",", False), []
     text = table_text(data, name, options.encoding.get(name), faults, words.knows)
@@ -432,13 +432,13 @@ def headed(name: str, owners: str, number: int, heading: List[str], rows: Rows, 
 def heading_of(rows: Rows, first: Optional[int], name: str, words: Words) -> Tuple[int, List[str], List[Fault]]:
     """The heading row and its number: the first row, or the first from this one on; 0 where there is none. Rows of one cell above it,
     where nobody says which it is, are titles, which are noted."""
-    number, heading = next((one for one in rows.rows if one[0] >= first), NOTHING) if first is not None else NOTHING
+    number, heading = next((row for row in rows.rows if row[0] >= first), NOTHING) if first is not None else NOTHING
     if first is not None:
         return number, heading, []
     above: List[Tuple[int, List[str]]] = []
-    for one in rows.rows:
-        above.append(one)
-        if len(above) > MOST_TITLES or len([text for text in one[1] if text]) > 1 or words.is_heading(one[1]):
+    for row in rows.rows:
+        above.append(row)
+        if len(above) > MOST_TITLES or len([text for text in row[1] if text]) > 1 or words.is_heading(row[1]):
             break
     titles = above[:-1] if above and words.is_heading(above[-1][1]) else []
     rows.rows = chain(above[len(titles) + 1:], rows.rows)

@@ -89,7 +89,7 @@ def table_text(data: bytes, table: str, encoding: Optional[str], faults: Faults,
     if odd:
         sets = readings(data, is_heading)
         values = {"title": text.title(), "words": odd, "table": table, "sets": sets}
-        faults.tell("file.set", table, None, None, values, remedies=[Remedy("encoding", one, table) for one, _ in sets])
+        faults.tell("file.set", table, None, None, values, remedies=[Remedy("encoding", set_name, table) for set_name, _ in sets])
         return Text("", text.encoding)
     names = [] if text.title().startswith("UTF") or text.text.isascii() else sorted(names_beyond_ascii(text.text, is_heading), key=is_sound)[:3]
     if names:
@@ -125,4 +125,4 @@ def tell_broken(data: bytes, error: UnicodeDecodeError, table: str, faults: Faul
         faults.tell("file.cut", table, len(lines), cell, {"title": title})
     else:
         values = {"byte": error.object[error.start:error.start + 1].hex(), "title": title}
-        faults.tell("file.byte", table, len(lines), cell, values, remedies=[Remedy("encoding", one, table) for one in OTHER_SETS[:4]])
+        faults.tell("file.byte", table, len(lines), cell, values, remedies=[Remedy("encoding", encoding, table) for encoding in OTHER_SETS[:4]])

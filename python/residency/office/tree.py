@@ -50,8 +50,8 @@ def list_texts(docket: Docket, named: Mapping[Tuple[str, str], Member]) -> Itera
         rows: List[Row] = [("R", name, *docket.resident_lists[name])] if side == RESIDENT else [("Q", name, docket.quotas[name])]
         if side == PROGRAMME and name in docket.programme_lists:
             rows.append(("P", name, *docket.programme_lists[name]))
-        one = named.get((side, name))
-        real = csv_row(("N", *(to_cell(text) for text in one[2:] if text)), ',"') if one else ""
+        member = named.get((side, name))
+        real = csv_row(("N", *(to_cell(text) for text in member[2:] if text)), ',"') if member else ""
         yield bytes_of(rows + [("W", side, name)] * (name in gone[side])) + real.encode("utf-8")
 
 
@@ -60,13 +60,13 @@ class Reasons:
 
     def __init__(self, docket: Docket, places: Places) -> None:
         self.docket, self.places = docket, places
-        self.rank = {name: {one: rank for rank, one in enumerate(listed, 1)} for name, listed in docket.programme_lists.items()}
+        self.rank = {name: {listed_name: rank for rank, listed_name in enumerate(listed, 1)} for name, listed in docket.programme_lists.items()}
         self.members: Dict[str, List[str]] = {name: [] for name in docket.quotas}
         for resident in docket.resident_lists:
             programme = places[resident]
             if programme is not None:
                 self.members[programme].append(resident)
-        self.last = {name: max((self.rank.get(name, {}).get(one, 0) for one in those), default=0) for name, those in self.members.items()}
+        self.last = {name: max((self.rank.get(name, {}).get(placed, 0) for placed in those), default=0) for name, those in self.members.items()}
 
     def rows(self, resident: str) -> Iterator[Row]:
         """A row for each programme of the resident's list, in order."""
@@ -94,7 +94,7 @@ def result_texts(docket: Docket, places: Places) -> Iterator[bytes]:
     for side, name in members(docket):
         if side == PROGRAMME:
             those = reasons.members[name]
-            yield bytes_of([("F", name, len(those), docket.quotas[name]), *(("M", one, name) for one in those)])
+            yield bytes_of([("F", name, len(those), docket.quotas[name]), *(("M", resident, name) for resident in those)])
         else:
             where = places[name]
             yield bytes_of([("U", name) if where is None else ("M", name, where), *reasons.rows(name)])
@@ -136,7 +136,7 @@ class Sealed:
     def __init__(self, docket: bytes, secret: bytes, sheet: Optional[bytes] = None, key: bytes = b"") -> None:
         read = read_docket(docket + (sheet or b""))
         self.members = members(read)
-        self.trees = {LISTS: Tree(list_texts(read, {one[:2]: one for one in read_key(key).members()}), secret, b"L")}
+        self.trees = {LISTS: Tree(list_texts(read, {member[:2]: member for member in read_key(key).members()}), secret, b"L")}
         if sheet is not None:
             if read.sheet is None and self.members:
                 raise DocketFault(0, "no sheet in the docket")

@@ -269,7 +269,7 @@ class Verifier:
             return there
         run = Run(self.after)
         before = rounds.Before(run)
-        causes = [cause(one) for one in before.faults(market, True).every()] + ["another folder"] * (run.digests() != manifest["after"])
+        causes = [cause(fault) for fault in before.faults(market, True).every()] + ["another folder"] * (run.digests() != manifest["after"])
         self.tell("the round before", "; ".join(causes[:3]) or "nobody has two places, and no place is given twice", not causes)
         return before.earlier
 
@@ -279,14 +279,14 @@ class Verifier:
         made, docket = self.tables.market, market.in_docket_names()
         try:
             already = {*made.withdrawn_programmes, *made.withdrawn_residents}
-            gone = [[name for name in (made.names.name(side, one) for one in names) if name not in already] for side, names in
+            gone = [[name for name in (made.names.name(side, name) for name in names) if name not in already] for side, names in
                     (("P", docket.withdrawn_programmes), ("R", docket.withdrawn_residents))]
             made = made.withdraw(programmes=gone[0], residents=gone[1])
         except (KeyError, ResidencyError):
             pass
         wanted = [(folder.DOCKET, made.docket()), (folder.KEY, write_key(made.names))]
         other = [difference(name, self.bytes_of(name), data).line() for name, data in wanted if name in self.there and self.bytes_of(name) != data]
-        digests = [one.get("sha256") for one in manifest.get("tables", []) if isinstance(one, dict)]
+        digests = [table.get("sha256") for table in manifest.get("tables", []) if isinstance(table, dict)]
         same = "the files that the manifest names" if digests == self.tables.digests else "other files than the manifest names"
         self.tell("tables", "; ".join(other) or f"{same}, and the docket and key that they give", not other)
         return made
@@ -295,7 +295,7 @@ class Verifier:
         """Every file that follows from the source, made again and compared."""
         sums = folder.sums_of(self.bytes_of(folder.SUMS)) if folder.SUMS in self.there else {}
         without = source.without()
-        claimed = {name: folder.digest(self.bytes_of(name)) if name in self.there else one for name, one in sums.items()
+        claimed = {name: folder.digest(self.bytes_of(name)) if name in self.there else claimed_sum for name, claimed_sum in sums.items()
                    if folder.needs(name, without)}
         try:
             made = remade.remade(self.room, source, claimed)
@@ -316,8 +316,8 @@ class Verifier:
                  and name != folder.JOURNAL and self.bytes_of(name) != data]
         left = [name for name in self.there if name not in made and folder.needs(name, without)]
         told += [Checked(shown(name), "more than the folder has", False) for name in self.there if name not in made and name not in left]
-        for one in sorted(told, key=Checked.line)[:MOST_SHOWN]:
-            self.add(*one)
+        for checked in sorted(told, key=Checked.line)[:MOST_SHOWN]:
+            self.add(*checked)
         if len(told) > MOST_SHOWN:
             self.add("", f"and {len(told) - MOST_SHOWN:,} more files", False)
         for names, what, part in ((folder.NEEDS_SECRET, "roots and receipts", "the key and " * (folder.KEY not in self.there) + "the secret"), (folder.NEEDS_KEY, "names", "the key")):
@@ -344,13 +344,13 @@ class Verifier:
         for row in list(csv.reader(io.StringIO(answer.decode("ascii", "replace"))))[1:]:
             said[row[0]].append(row[3])
         lists, other = Lists(market), []
-        for one in outcome_of(market, match.places).residents.values():
-            became = [what for _, what in lists.became(one)]
+        for resident in outcome_of(market, match.places).residents.values():
+            became = [what for _, what in lists.became(resident)]
             upto = became.index(Became.NOT_NEEDED) if Became.NOT_NEEDED in became else len(became)
-            answers = said.get(one.docket_name, [])
+            answers = said.get(resident.docket_name, [])
             is_rest_free = all(word in ("better", "unranked", "withdrawn") for word in answers[upto:])
             if len(answers) != len(became) or answers[:upto] != [ANSWERS[what] for what in became[:upto]] or not is_rest_free:
-                other.append(one.docket_name)
+                other.append(resident.docket_name)
         told = f"the program says something else of {', '.join(other[:3])}" if other else "the program says what the letters say"
         self.tell("reasons", told, not other)
 
@@ -408,7 +408,7 @@ def rows_of(text: str) -> List[List[str]]:
 def difference(name: str, there: bytes, wanted: bytes) -> Checked:
     """Where a file begins to differ from the one that was made again."""
     lines = list(zip(there.split(b"\n"), wanted.split(b"\n")))
-    at = next((at for at, (one, other) in enumerate(lines, 1) if one != other), len(lines) + 1)
+    at = next((at for at, (line, other) in enumerate(lines, 1) if line != other), len(lines) + 1)
     return Checked(shown(name), f"differs, first at line {at:,}", False)
 
 

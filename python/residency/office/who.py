@@ -29,16 +29,16 @@ def nobody(names: Names, text: str, side: str) -> OfficeError:
     if side and naming.meant(names.members(), text):
         return OfficeError("member.other-side", 3, name=text, side=side)
     everybody = list(names.members(side or None))
-    near = NearNames(dict.fromkeys(one.name for one in everybody)).near(text)
-    return OfficeError("member.nobody", 3, name=text, side=side, near=[one for one in everybody if one.name == near])
+    near = NearNames(dict.fromkeys(member.name for member in everybody)).near(text)
+    return OfficeError("member.nobody", 3, name=text, side=side, near=[member for member in everybody if member.name == near])
 
 
 def found(names: Names, part: str, side: str = "") -> List[Member]:
     """The members whose name, ID or docket's name has words that begin with these, whatever the accents and capitals; none for no word."""
     words = folded(part).split()
 
-    def has_all(one: Member) -> bool:
-        there = " ".join(["", *map(folded, (one.name, one.id, one.docket_name))])
+    def has_all(member: Member) -> bool:
+        there = " ".join(["", *map(folded, (member.name, member.id, member.docket_name))])
         return all(f" {word}" in there for word in words)
 
-    return [one for one in names.members(side or None) if words and has_all(one)]
+    return [member for member in names.members(side or None) if words and has_all(member)]

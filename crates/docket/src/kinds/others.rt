@@ -1,4 +1,5 @@
-//! The records of which no later pass needs more than they declare: programmes, the capacity and the version.
+//! The records that no later pass needs, apart from what they declare: programmes, the capacity and the
+//! version.
 ghost use Rattle.std.specs.Prelude.{◌≡◌, Some, true, slice_get, IfOk};
 ghost use Rattle.csv.specs.Records.{fields_of};
 ghost use Rattle.docket.specs.Answers.{Answers};

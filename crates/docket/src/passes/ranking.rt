@@ -76,7 +76,7 @@ fn rank_residents(
     programmes: &Members,
     residents: &Members,
     builder: &mut InstanceBuilder,
-    given: &mut ProgrammeLists,
+    programme_lists: &mut ProgrammeLists,
     listed: &mut Vec<ResidentNo>,
 ) -> Result<(), DocketFault>
     ensures ranked { OnOk result ((texts : Fields) (rows : List Fields) (k : ℕ)
@@ -97,15 +97,15 @@ fn rank_residents(
         })
         → Answers (ranking_fault rows (take k rows) (row_at rows k)) result }
     ensures limits { OnOk result (builder.new.limits ≡ builder.old.limits) }
-    ensures given { OnOk result (given.old ≡ builder.old.programme_lists
-        → given.new ≡ builder.new.programme_lists) }
+    ensures given { OnOk result (programme_lists.old ≡ builder.old.programme_lists
+        → programme_lists.new ≡ builder.new.programme_lists) }
 {
     let Some(owner) = programmes.member(row.owner as usize) else {
         return Err(DocketFault::UnknownName { place: row.place });
     };
     listed_residents(row.place, row.listed, residents, listed)?;
     let (owner, list) = (ProgrammeNo(owner), listed.as_slice());
-    given.give(alloc, owner, list)?;
+    programme_lists.give(alloc, owner, list)?;
     match builder.programme_list(owner, list) {
         Ok(()) => Ok(()),
         Err(fault) => Err(model_fault(row.place, fault)),
@@ -226,7 +226,7 @@ fn rank_row(
     programmes: &Members,
     residents: &Members,
     builder: &mut InstanceBuilder,
-    given: &mut ProgrammeLists,
+    programme_lists: &mut ProgrammeLists,
     of_programme: &mut Vec<ResidentNo>,
     of_resident: &mut Vec<ProgrammeNo>,
 ) -> Result<(), DocketFault>
@@ -240,8 +240,8 @@ fn rank_row(
         → IsNext texts programmes.now residents.now builder.old rows k entry
         → Answers (ranking_fault rows (take k rows) (row_at rows k)) result }
     ensures limits { OnOk result (builder.new.limits ≡ builder.old.limits) }
-    ensures given { OnOk result (given.old ≡ builder.old.programme_lists
-        → given.new ≡ builder.new.programme_lists) }
+    ensures given { OnOk result (programme_lists.old ≡ builder.old.programme_lists
+        → programme_lists.new ≡ builder.new.programme_lists) }
 {
     let row = lists.row(j);
     match row.kind {
@@ -251,7 +251,7 @@ fn rank_row(
             programmes,
             residents,
             builder,
-            given,
+            programme_lists,
             of_programme,
         ),
         ListKind::Ranking(Side::Residents) => {
@@ -269,7 +269,7 @@ fn rank(
     programmes: &Members,
     residents: &Members,
     builder: &mut InstanceBuilder,
-    given: &mut ProgrammeLists,
+    programme_lists: &mut ProgrammeLists,
 ) -> Result<(), DocketFault>
     ensures ranked { OnOk result ((texts : Fields) (rows : List Fields)
         → AreLists texts lists.now rows → AreKnown texts programmes.now residents.now rows
@@ -278,8 +278,8 @@ fn rank(
         → AreLists texts lists.now rows → AreKnown texts programmes.now residents.now rows
         → IsRanked builder.old rows [] → Answers (first_from (ranking_fault rows) [] rows) result }
     ensures limits { OnOk result (builder.new.limits ≡ builder.old.limits) }
-    ensures given { OnOk result (given.old ≡ builder.old.programme_lists
-        → given.new ≡ builder.new.programme_lists) }
+    ensures given { OnOk result (programme_lists.old ≡ builder.old.programme_lists
+        → programme_lists.new ≡ builder.new.programme_lists) }
 {
     let mut of_programme = Vec::new(alloc);
     let mut of_resident = Vec::new(alloc);
@@ -291,7 +291,7 @@ fn rank(
             programmes,
             residents,
             builder,
-            given,
+            programme_lists,
             &mut of_programme,
             &mut of_resident,
         )?;
@@ -303,25 +303,26 @@ fn rank(
 fn finished(
     builder: InstanceBuilder,
     records: u32,
-    given: ProgrammeLists,
+    programme_lists: ProgrammeLists,
     keeps_lists: bool,
 ) -> Result<(Instance, Option<(WrittenLists, ProgrammeLists)>), DocketFault>
     ensures instance { IfOk result (λ made. (rows : List Fields)
         → IsRanked builder rows rows → made.0 ≡ made_of (draft_of rows)) }
     ensures lists { IfOk result (λ made. (rows : List Fields)
-        → IsRanked builder rows rows → (keeps_lists ≡ true → given ≡ builder.programme_lists)
+        → IsRanked builder rows rows
+        → (keeps_lists ≡ true → programme_lists ≡ builder.programme_lists)
         → made.1 ≡ lists_if keeps_lists rows) }
     ensures fault { (rows : List Fields) → IsRanked builder rows rows
         → records ≡ length rows → Answers (pairs_fault builder.limits rows) result }
 {
     match builder.finish_with_lists() {
-        Ok((instance, lists)) if keeps_lists => Ok((instance, Some((lists, given)))),
+        Ok((instance, lists)) if keeps_lists => Ok((instance, Some((lists, programme_lists)))),
         Ok((instance, _)) => Ok((instance, None)),
         Err(refused) => Err(model_fault(records, refused.fault)),
     }
 }
 
-// Where the programmes' lists will be kept: a place for each programme if lists are kept, else none.
+// The place for the programmes' lists, with no list yet; no place if lists are not kept.
 fn no_lists(
     alloc: Global,
     programmes: &Members,
@@ -355,14 +356,14 @@ pub(crate) fn instance_of(
         → IsRanked builder rows [] → records ≡ length rows → Answers (option_or
         (first_from (ranking_fault rows) [] rows) (pairs_fault builder.limits rows)) result }
 {
-    let mut given = no_lists(alloc, programmes, keeps_lists)?;
+    let mut programme_lists = no_lists(alloc, programmes, keeps_lists)?;
     rank(
         alloc,
         lists,
         programmes,
         residents,
         &mut builder,
-        &mut given,
+        &mut programme_lists,
     )?;
-    finished(builder, records, given, keeps_lists)
+    finished(builder, records, programme_lists, keeps_lists)
 }

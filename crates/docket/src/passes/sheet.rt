@@ -49,7 +49,7 @@ fn known(members: &Members, text: u32, place: u32) -> Result<u32, DocketFault>
     }
 }
 
-// What is known from those rows of the sheet that were read so far.
+// What is known from the rows of the sheet that were read so far.
 #[derive(Drop)]
 struct Marks {
     sheet: Assignment,

@@ -46,12 +46,12 @@ pub(crate) struct ListRow<'a> {
 /// The rank lists and withdrawals in order. Each name is kept as the number of its text.
 ///
 /// If these rows bring more new names than there can be members, one of the names is nobody's, and the second pass ends
-/// there. From this name on nothing more is kept.
+/// at that name's row. So from then on nothing more is kept.
 #[derive(Drop)]
 pub(crate) struct Lists {
     rows: Vec<KeptRow>,
     names: Vec<u32>,
-    // How many names were new when one of these rows brought them.
+    // How many new texts these rows brought.
     brought: usize,
 }
 
@@ -67,16 +67,16 @@ impl Model for Lists {
     ghost invariant = { λ a. ArePartsOf a.names.items a.rows.items };
 }
 
-// The count of new names, after the number of texts grew from `before` to `after`. Once there are too many new names,
-// the count stays.
+// The count of new names, after the number of texts grew from `texts_before` to `texts_after`. Once there are too
+// many new names, the count stays the same.
 #[inline(always)]
-fn counted(brought: usize, before: usize, after: usize) -> usize
-    requires within { before ≤ after }
-    requires one { after ≤ before + 1 }
-    ensures counted { brought ≤ MOST_NAMES → result + before ≡ brought + after }
+fn counted(brought: usize, texts_before: usize, texts_after: usize) -> usize
+    requires within { texts_before ≤ texts_after }
+    requires one { texts_after ≤ texts_before + 1 }
+    ensures counted { brought ≤ MOST_NAMES → result + texts_before ≡ brought + texts_after }
     ensures cut { MOST_NAMES < brought → result ≡ brought }
 {
-    if brought <= MOST_NAMES && before < after {
+    if brought <= MOST_NAMES && texts_before < texts_after {
         brought + 1
     } else {
         brought
@@ -98,9 +98,9 @@ fn number_name(
         → brought.new + length texts.old ≡ brought.old + length texts.new) }
     ensures cut { OnOk result (MOST_NAMES < brought.old → brought.new ≡ brought.old) }
 {
-    let before = texts.len();
+    let texts_before = texts.len();
     let number = texts.name(text)?;
-    *brought = counted(*brought, before, texts.len());
+    *brought = counted(*brought, texts_before, texts.len());
     Ok(number)
 }
 
@@ -117,8 +117,8 @@ fn push_number(numbers: &mut Vec<u32>, number: usize) -> Result<(), AllocError>
     Ok(())
 }
 
-// Tests a text and keeps its number. If there are too many new names, the text is only tested. The answer is whether the
-// text is a name.
+// Tests a text and keeps its number. If there are too many new names, the text is only tested. Returns whether the text
+// is a name.
 #[inline(always)]
 fn add_name(
     numbers: &mut Vec<u32>,
@@ -143,8 +143,8 @@ fn add_name(
     Ok(true)
 }
 
-// Tests the names that a rank list has after its owner's, and keeps their numbers. Once there are too many new names, the
-// other names are only tested. The answer is whether all are names.
+// Tests the names that a rank list has after the name of its owner, and keeps their numbers. Once there are too many
+// new names, the remaining names are only tested. Returns whether all of them are names.
 fn add_names(
     numbers: &mut Vec<u32>,
     brought: &mut usize,

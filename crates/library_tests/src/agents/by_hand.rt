@@ -81,7 +81,8 @@ fn serve_programme<
     Ok(())
 }
 
-/// A mailbox with room for all offers that can be sent to a resident, and the resident's agent.
+/// The sending end of a mailbox with room for all offers that can be sent to a resident, and the
+/// resident's agent.
 fn resident_desk<J: ExchangeIdentity, R: Wait + Copy>(
     alloc: Global,
     rt: R,
@@ -126,7 +127,8 @@ fn open_residents<J: ExchangeIdentity, R: Wait + Copy>(
     Ok((puts, desks))
 }
 
-/// A mailbox with room for all answers that can be sent to a programme, and the programme's agent.
+/// The sending end of a mailbox with room for all answers that can be sent to a programme, and the
+/// programme's agent.
 fn programme_desk<J: ExchangeIdentity, R: Wait + Copy>(
     alloc: Global,
     rt: R,
@@ -272,7 +274,8 @@ fn serve_to_close<
     ledger.close(inst, tally)
 }
 
-/// How many events an exchange has up to its close. None if some desk's log differs from the journal.
+/// How many events the exchange has, with its close. None if some desk's log differs from the
+/// journal.
 fn exchange<J: ExchangeIdentity, R: Wait + Copy>(
     rt: R,
     alloc: Global,

@@ -14,8 +14,8 @@ pub(crate) struct Run {
     ghost core_of: { IsCoreOf inst core },
 }
 
-/// What the core shows: what is pending first, to whom a programme offers next, whose offer a resident holds, and
-/// which answer the resident owes first.
+/// What the core shows: what is pending first, the resident of a programme's next offer, the programme whose
+/// offer a resident holds, and the answer that this resident owes first.
 pub(super) type Seen = (
     Option<Pending>,
     Option<ResidentNo>,
@@ -45,7 +45,7 @@ impl Run {
         self.core.some_enabled(&self.inst)
     }
 
-    /// What the core shows of this programme and this resident. If one of them is no member, nothing is shown of it.
+    /// What the core shows of this programme and this resident. Nothing is shown of a number that no member has.
     pub(super) fn seen(&self, programme: ProgrammeNo, resident: ResidentNo) -> Seen {
         if programme.0 >= self.inst.programmes() || resident.0 >= self.inst.residents() {
             return (None, None, None, None);
@@ -58,11 +58,12 @@ impl Run {
         )
     }
 
-    pub(super) fn given(&self, alloc: Global) -> Result<Assignment, ModelFault>
-        ensures { IfOk result (λ given. length given ≡ length self.now.inst.resident_lists) }
+    pub(super) fn assignment(&self, alloc: Global) -> Result<Assignment, ModelFault>
+        ensures { IfOk result (λ assignment.
+            length assignment ≡ length self.now.inst.resident_lists) }
     {
-        let mut given = Assignment::new(alloc, self.inst.residents())?;
-        self.core.assignment(&mut given);
-        Ok(given)
+        let mut assignment = Assignment::new(alloc, self.inst.residents())?;
+        self.core.assignment(&mut assignment);
+        Ok(assignment)
     }
 }

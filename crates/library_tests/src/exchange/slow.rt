@@ -16,7 +16,7 @@ enum Mail {
     Hears,
 }
 
-/// What an item of one of these six lists says: the other member, and the kind of an answer.
+/// An item of one of these six lists: the other member, and the kind if it is an answer.
 type Letter = (u32, Option<AnswerKind>);
 
 /// This item if the two numbers are equal, or none.
@@ -90,25 +90,25 @@ fn count(mail: Mail, desk: u32, j: &[Event]) -> usize {
 
 /// The item at index `place` in this list of a desk.
 fn item(mail: Mail, desk: u32, j: &[Event], place: usize) -> Option<Letter> {
-    let mut left = place;
+    let mut items_left = place;
     for event in j {
         if let Some(letter) = letter(mail, desk, event) {
-            if left == 0 {
+            if items_left == 0 {
                 return Some(letter);
             }
-            left -= 1;
+            items_left -= 1;
         }
     }
     None
 }
 
 fn place(ranking: &[ProgrammeNo], p: u32) -> usize {
-    let found = ranking.iter().position(|q| q.0 == p);
-    found.unwrap_or(ranking.len())
+    let index = ranking.iter().position(|q| q.0 == p);
+    index.unwrap_or(ranking.len())
 }
 
-/// Where the best programme whose offer the resident took stands on the ranking. If the resident took no offer, the
-/// result is the ranking's length.
+/// The place on the ranking of the best programme whose offer the resident took, or the ranking's length if the
+/// resident took no offer.
 fn best_place(ranking: &[ProgrammeNo], r: ResidentNo, j: &[Event]) -> usize {
     let mut best = ranking.len();
     for event in j {
@@ -121,11 +121,11 @@ fn best_place(ranking: &[ProgrammeNo], r: ResidentNo, j: &[Event]) -> usize {
 
 /// The answers that an offer by this programme calls for, if the resident takes it after these events.
 fn calls(ranking: &[ProgrammeNo], r: ResidentNo, earlier: &[Event], p: u32) -> [Option<Letter>; 2] {
-    let before = best_place(ranking, r, earlier);
-    if place(ranking, p) >= before {
+    let best_so_far = best_place(ranking, r, earlier);
+    if place(ranking, p) >= best_so_far {
         return [Some((p, Some(AnswerKind::Decline))), None];
     }
-    let release = match ranking.get(before) {
+    let release = match ranking.get(best_so_far) {
         Some(q) => Some((q.0, Some(AnswerKind::Release))),
         None => None,
     };
@@ -134,17 +134,17 @@ fn calls(ranking: &[ProgrammeNo], r: ResidentNo, earlier: &[Event], p: u32) -> [
 
 /// The first answer that the resident owes and has not given.
 fn first_due(ranking: &[ProgrammeNo], r: ResidentNo, j: &[Event]) -> Option<Letter> {
-    let mut given = count(Mail::AnswersOf, r.0, j);
+    let mut answers_given = count(Mail::AnswersOf, r.0, j);
     for (index, event) in j.iter().enumerate() {
         let Some((p, _)) = letter(Mail::Takes, r.0, event) else {
             continue;
         };
         let [first, second] = calls(ranking, r, &j[..index], p);
         let called = if second.is_some() { 2 } else { 1 };
-        if given < called {
-            return if given == 0 { first } else { second };
+        if answers_given < called {
+            return if answers_given == 0 { first } else { second };
         }
-        given -= called;
+        answers_given -= called;
     }
     None
 }
@@ -212,11 +212,11 @@ pub(super) fn refusal(
     }
 }
 
-/// Whether the core's answer is that of the slow definitions.
-pub(super) fn is_same(told: Result<(), Refused>, slow: Option<Refused>) -> bool {
+/// Whether the core and the slow definitions give the same answer.
+pub(super) fn is_same(core_answer: Result<(), Refused>, slow: Option<Refused>) -> bool {
     match slow {
-        Some(why) => told == Err(why),
-        None => told.is_ok(),
+        Some(why) => core_answer == Err(why),
+        None => core_answer.is_ok(),
     }
 }
 
@@ -250,7 +250,7 @@ fn offer(
     None
 }
 
-/// Why the wanted item isn't the one in front, or none if it is.
+/// Why an event's item isn't the item in front, or none if it is.
 fn front_fault(front: Option<Letter>, wanted: Letter) -> Option<Refused> {
     match front {
         None => Some(Refused::NothingWaiting),
@@ -275,9 +275,9 @@ fn answer(
     cap: Capacity,
     j: &[Event],
     r: ResidentNo,
-    given: (ProgrammeNo, AnswerKind),
+    given_answer: (ProgrammeNo, AnswerKind),
 ) -> Option<Refused> {
-    let (p, kind) = given;
+    let (p, kind) = given_answer;
     if is_strange(inst, p, r) {
         return Some(Refused::NoSuchDesk);
     }

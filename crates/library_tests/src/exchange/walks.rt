@@ -11,7 +11,7 @@ const PROGRAMMES: u32 = 3;
 
 const RESIDENTS: u32 = 5;
 
-/// Random numbers, each of which is made from the one before by shifts and exclusive ors.
+/// Random numbers, each made from the number before it by shifts and exclusive ors.
 #[derive(Drop)]
 struct Numbers {
     last: u32,
@@ -30,7 +30,7 @@ impl Numbers {
     }
 }
 
-/// Most of the numbers below a prime, in a random order.
+/// Most of the numbers below a prime, in random order.
 fn some_below(numbers: &mut Numbers, alloc: Global, prime: u32) -> Result<Vec<u32>, AllocError>
     requires { 1 < prime }
 {
@@ -82,7 +82,7 @@ fn random_instance(numbers: &mut Numbers, alloc: Global) -> Result<Instance, Mod
     builder.finish().map_err(|refused| refused.fault)
 }
 
-/// A random event. Seldom one of its two members doesn't exist.
+/// A random event. Now and then one of its two members doesn't exist.
 fn random_event(numbers: &mut Numbers) -> Event {
     let programme = ProgrammeNo(numbers.below(PROGRAMMES + 1).min(numbers.below(30)));
     let resident = ResidentNo(numbers.below(RESIDENTS));
@@ -125,15 +125,15 @@ fn next_event(numbers: &mut Numbers, run: &Run) -> Event {
 /// Whether the core and the slow definitions agree about an event. If the event may follow, it is entered and added
 /// to the list.
 fn agrees_once(run: &mut Run, cap: Capacity, list: &mut Vec<Event>, event: Event) -> bool {
-    let again = event;
-    let more = event;
+    let same_event = event;
+    let event_to_add = event;
     let slow = slow::refusal(&run.inst, cap, list.as_slice(), event);
     let is_free = slow.is_none();
-    if !slow::is_same(run.step(again), slow) {
+    if !slow::is_same(run.step(same_event), slow) {
         return false;
     }
     if is_free {
-        let Ok(()) = list.push(more) else {
+        let Ok(()) = list.push(event_to_add) else {
             return false;
         };
     }

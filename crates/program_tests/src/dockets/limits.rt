@@ -30,7 +30,7 @@ fn ranked(alloc: Global, last: &str) -> Result<String, AllocError> {
     Ok(text)
 }
 
-// The row of a capacity followed by closes: this many records in all.
+// A docket of this many records: the row of a capacity, and then closes.
 fn closes(alloc: Global, records: u32) -> Result<String, AllocError> {
     let mut text = String::new(alloc);
     text.push_str("C,full\n")?;
@@ -162,9 +162,9 @@ fn beyond(alloc: Global, limit: usize) -> Result<String, AllocError> {
 fn none_is_matched_beyond(rt: HostRuntime) -> Result<(), Fail> {
     for (limit, fault) in BEYOND.iter().enumerate() {
         let text = beyond(rt.alloc(), limit)?;
-        let ending = (Err(ServeFault::Docket(*fault)), "", 3);
+        let expected = (Err(ServeFault::Docket(*fault)), "", 3);
         assert!(rt;
-            serves(rt, rt.alloc(), MATCH, &[text.as_str()], ending)?,
+            serves(rt, rt.alloc(), MATCH, &[text.as_str()], expected)?,
             "{fault}"
         );
     }

@@ -5,8 +5,7 @@ use docket::read_docket;
 use std::test::Fail;
 use test_support::randomness::NoRandomness;
 
-// Names each of which begins with the one before it, or differs from the one before it only in its last
-// byte.
+// Names each of which begins with the name before it, or differs from that name only in its last byte.
 const ALIKE: &str =
     "R,abcdefg\nR,abcdefgh\nR,abcdefgi\nR,abcdefghi\nR,abcdefghj\nR,abcdefghijklmnop\nR,abcdefghijklmnoq\nR,abcdefghijklmnopq\nR,abcdefghijklmnopqrstuvwxyz01234\nR,abcdefghijklmnopqrstuvwxyz012345\nR,abcdefghijklmnopqrstuvwxyz012346\n";
 

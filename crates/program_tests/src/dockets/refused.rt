@@ -1,4 +1,5 @@
-//! Dockets with a fault, or with a part missing. Each command reports this, and writes nothing.
+//! Dockets with a fault, or with a part missing. Each command reports the fault or the missing
+//! part, and writes nothing.
 use crate::commands::{MATCH, serves, serves_both};
 use crate::texts::{CLOSE, FULL, SMALL, SMALL_SHEET, THREE, VERSION_2};
 use docket::DocketFault;
@@ -53,9 +54,9 @@ const FAULTS: [(&[&str], DocketFault); 17] = [
 fn tells_faults_of_reading(rt: HostRuntime) -> Result<(), Fail> {
     for (texts, fault) in FAULTS {
         for order in [MATCH, Order::Audit, Order::Replay] {
-            let ending = (Err(ServeFault::Docket(fault)), "", 3);
+            let expected = (Err(ServeFault::Docket(fault)), "", 3);
             assert!(rt;
-                serves_both(rt, rt.alloc(), order, texts, ending)?,
+                serves_both(rt, rt.alloc(), order, texts, expected)?,
                 "{fault}"
             );
         }
@@ -100,8 +101,8 @@ const CUTS: [(&[&str], DocketFault); 6] = [
 fn cuts_of_version_2(rt: HostRuntime) -> Result<(), Fail> {
     for (texts, fault) in CUTS {
         for order in [MATCH, Order::Audit, Order::Replay] {
-            let ending = (Err(ServeFault::Docket(fault)), "", 3);
-            assert!(rt; serves(rt, rt.alloc(), order, texts, ending)?, "{fault}");
+            let expected = (Err(ServeFault::Docket(fault)), "", 3);
+            assert!(rt; serves(rt, rt.alloc(), order, texts, expected)?, "{fault}");
         }
     }
     for (texts, sheet) in [
@@ -111,8 +112,8 @@ fn cuts_of_version_2(rt: HostRuntime) -> Result<(), Fail> {
             "M,x,a\nU,y\nF,a,1,1\nF,b,0,1\n",
         ),
     ] {
-        let ending = (Ok(Status::Closed), sheet, 0);
-        assert!(rt; serves(rt, rt.alloc(), MATCH, texts, ending)?, "{sheet}");
+        let expected = (Ok(Status::Closed), sheet, 0);
+        assert!(rt; serves(rt, rt.alloc(), MATCH, texts, expected)?, "{sheet}");
     }
     Ok(())
 }

@@ -64,13 +64,13 @@ fn faults_of_version_2(rt: HostRuntime) -> Result<(), Fail> {
 }
 
 // Whether the instance says of this programme, as expected, whether it is withdrawn.
-fn is_programme_gone(instance: &Instance, programme: ProgrammeNo, gone: bool) -> bool {
-    programme.0 < instance.programmes() && instance.programme_withdrawn(programme) == gone
+fn is_programme_gone(instance: &Instance, programme: ProgrammeNo, withdrawn: bool) -> bool {
+    programme.0 < instance.programmes() && instance.programme_withdrawn(programme) == withdrawn
 }
 
 // Whether the instance says of this resident, as expected, whether the resident is withdrawn.
-fn is_resident_gone(instance: &Instance, resident: ResidentNo, gone: bool) -> bool {
-    resident.0 < instance.residents() && instance.resident_withdrawn(resident) == gone
+fn is_resident_gone(instance: &Instance, resident: ResidentNo, withdrawn: bool) -> bool {
+    resident.0 < instance.residents() && instance.resident_withdrawn(resident) == withdrawn
 }
 
 // Whether exactly these members are withdrawn if these rows stand at the end of the small docket of

@@ -1,4 +1,4 @@
-//! What a match writes that is asked for its journal. If this is appended to the match's docket, the sheet is stable
+//! The sheet and the journal that a match writes. If they are appended to the match's docket, the sheet is stable
 //! and the replay is good.
 use crate::commands::{NARROW_WITH_JOURNAL, WITH_JOURNAL, serve};
 use crate::markets::hundreds;

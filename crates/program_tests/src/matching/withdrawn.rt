@@ -37,8 +37,8 @@ const MATCHES: [(&[&str], &str); 7] = [
 fn matches_who_is_left(rt: HostRuntime) -> Result<(), Fail> {
     for (texts, sheet) in MATCHES {
         for order in [MATCH, NARROW] {
-            let ending = (Ok(Status::Closed), sheet, 0);
-            assert!(rt; serves(rt, rt.alloc(), order, texts, ending)?, "{sheet}");
+            let expected = (Ok(Status::Closed), sheet, 0);
+            assert!(rt; serves(rt, rt.alloc(), order, texts, expected)?, "{sheet}");
         }
     }
     Ok(())

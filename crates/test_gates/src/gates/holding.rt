@@ -7,7 +7,8 @@ use match_pool::{Gate, Go};
 use std::sync::atomic::{AtomicBool, AtomicU64, Ordering};
 use std::thread;
 
-/// What a gate notes that keeps one call of `pass` waiting until other workers have entered two events.
+/// The notes of a gate that keeps one call of `pass` waiting until other workers have entered two
+/// events.
 #[derive(Drop)]
 pub struct Held {
     place: u64,
@@ -52,9 +53,9 @@ impl Held {
         if self.passed.fetch_add(1, Ordering::SeqCst) != self.place {
             return false;
         }
-        let before = self.count_others(worker);
+        let others_at_start = self.count_others(worker);
         for _ in 0..TURNS {
-            if self.count_others(worker).saturating_sub(before) >= 2 {
+            if self.count_others(worker).saturating_sub(others_at_start) >= 2 {
                 self.held.store(true, Ordering::SeqCst);
                 return false;
             }
@@ -83,7 +84,8 @@ impl Gate for Firm {
     }
 }
 
-/// A gate that keeps one call of `pass` waiting, and stops the run if the wait was in vain.
+/// A gate that keeps one call of `pass` waiting, and stops the run if no other workers enter events
+/// meanwhile.
 #[derive(Drop)]
 pub struct Loose(pub Held);
 
@@ -118,9 +120,9 @@ pub enum Order {
 
 /// A gate for a market of pairs: each pair is a programme with one place and a resident, who rank only each other.
 ///
-/// The gate keeps all workers but the last one waiting, each in a call of `pass`. It releases the first of them once
-/// every event is entered that needs no waiting worker. It releases each further one once every event is entered that
-/// needs none of the workers that still wait.
+/// The gate keeps all workers but the last one waiting, each in a call of `pass`. It releases the first of them when
+/// all events that need no waiting worker are entered. It releases each further worker when all events that need none
+/// of the workers still waiting are entered.
 #[derive(Drop)]
 pub struct AllButOne {
     pairs: u64,
@@ -155,7 +157,7 @@ impl AllButOne {
         self.gone.load(Ordering::SeqCst) == self.held && !self.gave_up.load(Ordering::SeqCst)
     }
 
-    // In which place a worker is released that came in this place.
+    // The place in the order of release of the worker that came in this place.
     fn place_of(&self, came: u64) -> u64 {
         match self.order {
             Order::FirstFirst => came,
@@ -165,8 +167,8 @@ impl AllButOne {
         }
     }
 
-    // Whether the worker in this place is released now: all workers to be kept waiting have come, those before it
-    // were released, and every event that is possible is entered.
+    // Whether the worker in this place is released now: all workers that the gate keeps waiting have come,
+    // those before it were released, and all events possible without it are entered.
     fn is_turn_of(&self, place: u64) -> bool {
         let entered = self.counts.of_all();
         let blocked = self.blocked.load(Ordering::SeqCst);

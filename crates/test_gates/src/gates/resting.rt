@@ -26,8 +26,8 @@ pub struct Hold {
     pub to: u64,
 }
 
-/// A gate that keeps one call of `pass` waiting until no worker has entered an event for a long time, and notes what
-/// it saw.
+/// A gate that keeps one call of `pass` waiting until no worker has entered an event for a long time, and notes this
+/// wait.
 #[derive(Drop)]
 pub struct Stalls {
     place: u64,

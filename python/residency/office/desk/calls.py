@@ -53,7 +53,7 @@ class Desk:
     @contextmanager
     def made(self, stem: str, tell: Tell) -> Iterator[Path]:
         """Where a folder is to be made, which is open once it is whole, if whoever asked is still there."""
-        name = next(one for one in (f"{stem}-{number}" if number > 1 else stem for number in count(1)) if one not in self.folders)
+        name = next(candidate for candidate in (f"{stem}-{number}" if number > 1 else stem for number in count(1)) if candidate not in self.folders)
         try:
             yield self.room / name
             tell("done")
@@ -91,10 +91,10 @@ class Desk:
 
     def state(self, said: Said, tell: Tell) -> Any:
         """What the page begins with."""
-        folders = [{"name": name, "is_saved": name in self.saved, "files": sorted(one.name for one in path.glob("*") if one.is_file()),
+        folders = [{"name": name, "is_saved": name in self.saved, "files": sorted(file.name for file in path.glob("*") if file.is_file()),
                     **running.said_of(str(path))} for name, path in self.folders.items()]
-        return {"tables": {name: one.name for name, one in self.given.items()}, "settings": settings.values_of(self.settings), "folders": folders,
-                "near": sorted(one.parent.name for one in self.home.glob(f"*/{folder.MANIFEST}")), "languages": [(one, named(one).called) for one in languages()]}
+        return {"tables": {name: table.name for name, table in self.given.items()}, "settings": settings.values_of(self.settings), "folders": folders,
+                "near": sorted(path.parent.name for path in self.home.glob(f"*/{folder.MANIFEST}")), "languages": [(language, named(language).called) for language in languages()]}
 
     def open(self, said: Said, tell: Tell) -> Any:
         """Opens a folder that is there."""
@@ -110,15 +110,15 @@ class Desk:
         """How the tables are read, and what is at fault."""
         seen = steps.see(self.given, self.settings)
         read, sheets = seen.read, seen.read.sheets()
-        lines = [how(one) for one in read.tables] if read.market is None else command.describe(read.tables, read.market)
-        return {"looks": {name: one.as_dict() for name, one in seen.looks.items()}, "how": dict(zip((one.name for one in read.tables), lines)),
+        lines = [how(table) for table in read.tables] if read.market is None else command.describe(read.tables, read.market)
+        return {"looks": {name: look.as_dict() for name, look in seen.looks.items()}, "how": dict(zip((table.name for table in read.tables), lines)),
                 "faults": faults_at_desk(read.faults, sheets), "notes": at_desk(read.notes(), sheets), "ready": read.market is not None}
 
     def save_settings(self, said: Said, tell: Tell) -> Any:
         """The file of the settings, with what was found of the tables."""
         found = settings.from_values(settings.values_of(self.settings))
-        looks = [one for one in steps.see(self.given, found).looks.values() if one.heading_row]
-        return settings.file_text(found, command.taken(found, looks, [self.given[one.table].name for one in looks]))
+        looks = [look for look in steps.see(self.given, found).looks.values() if look.heading_row]
+        return settings.file_text(found, command.taken(found, looks, [self.given[look.table].name for look in looks]))
 
     def open_settings(self, said: Said, tell: Tell) -> Any:
         """Settings of a file's text, or of an open folder."""
@@ -157,7 +157,7 @@ class Desk:
         done = steps.withdraw(before, programmes, residents, progress=tell)
         with self.made(f"{said['folder']}-without", tell) as out:
             command.written_without(given, steps.next(before.at), done, str(out))
-        return {"folder": out.name, "changes": [one.cells() for one in done.changes]}
+        return {"folder": out.name, "changes": [change.cells() for change in done.changes]}
 
     def next(self, said: Said, tell: Tell) -> Any:
         """The tables of the next round."""
@@ -167,13 +167,13 @@ class Desk:
 
     def compare(self, said: Said, tell: Tell) -> Any:
         found = steps.compare(self.run(said["before"]), self.run(said["now"]), tell)
-        return {"figures": found.figures, "changes": [one.cells() for one in found.changes],
+        return {"figures": found.figures, "changes": [change.cells() for change in found.changes],
                 "said": compare.summary(found.before.outcome, found.now.outcome, found.changes)}
 
     def members(self, said: Said, tell: Tell) -> Any:
         """The members whom a part of a name may mean."""
         found = who.found(self.kept(said["folder"]).names, said["part"], said["side"])
-        return {"count": len(found), "members": [(one.side, SIDES[one.side], one.label, label(one)) for one in found[:MOST_MEMBERS]]}
+        return {"count": len(found), "members": [(member.side, SIDES[member.side], member.label, label(member)) for member in found[:MOST_MEMBERS]]}
 
     def why(self, said: Said, tell: Tell) -> Any:
         return counter.answer(self.run(said["folder"]), said["member"])

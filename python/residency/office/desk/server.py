@@ -49,7 +49,7 @@ class Asked:
         self.connection, self.rest, self.is_over, self.is_begun = connection, rest, is_over, False
         first, *lines = head.decode("latin-1").split("\r\n")
         found, parts = REQUEST.fullmatch(first), [FIELD.fullmatch(line) for line in lines]
-        self.fields: Dict[str, str] = {one[1].lower(): one[2] for one in parts if one}
+        self.fields: Dict[str, str] = {part[1].lower(): part[2] for part in parts if part}
         self.method, self.path = (found[1], found[2]) if found and len(self.fields) == len(lines) else ("", "")
 
     def guard(self, port: int) -> None:
@@ -107,7 +107,7 @@ class Server:
 
     def __init__(self, desk: Desk) -> None:
         self.desk, self.token = desk, secrets.token_urlsafe(32)
-        self.files = {one.name: one.read_bytes() for one in Path(__file__).parent.iterdir() if one.suffix[1:] in KINDS}
+        self.files = {path.name: path.read_bytes() for path in Path(__file__).parent.iterdir() if path.suffix[1:] in KINDS}
         self.listener = socket.create_server((HOST, 0), backlog=MOST_WAITING)
         self.port = self.listener.getsockname()[1]
         self.address = f"http://{HOST}:{self.port}/#{self.token}"
@@ -123,15 +123,15 @@ class Server:
     def serve(self) -> None:
         """Answers until the desk is closed, by its button or with its last window."""
         threads = [threading.Thread(target=self.work, daemon=True) for _ in range(MOST_ANSWERED)]
-        for one in threads:
-            one.start()
+        for thread in threads:
+            thread.start()
         while not self.desk.over.is_set() and (self.windows or time.monotonic() < self.last + SECONDS_AWAY):
             for key, _ in self.selector.select(0.5):
                 try:
                     self.hear(key.fileobj) if key.fileobj in self.waiting else self.accept()
                 except OSError:
                     pass
-            late = [one for one, (_, end) in self.waiting.items() if end < time.monotonic()]
+            late = [peer for peer, (_, end) in self.waiting.items() if end < time.monotonic()]
             for connection in {*late, *list(self.waiting)[:-MOST_WAITING]}:
                 self.take(connection).close()
         self.desk.over.set()
@@ -139,10 +139,10 @@ class Server:
         self.selector.close()
         for waits in (self.listener, *self.waiting):
             waits.close()
-        for one in threads:
+        for thread in threads:
             self.asked.put(None)
-        for one in threads:
-            one.join(max(0.0, end - time.monotonic()))
+        for thread in threads:
+            thread.join(max(0.0, end - time.monotonic()))
 
     def accept(self) -> None:
         connection, _ = self.listener.accept()
@@ -247,7 +247,7 @@ class Server:
         try:
             said = json.loads(data)
             found = said.pop("settings", None)
-            if not all(isinstance(one, str) for one in said.values()):
+            if not all(isinstance(value, str) for value in said.values()):
                 raise TypeError
         except (ValueError, TypeError, AttributeError, RecursionError):
             raise Refused(400, "a call says texts by their names") from None

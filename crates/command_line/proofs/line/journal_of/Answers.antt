@@ -4,7 +4,6 @@ use Rattle.clap.proofs.WalkLemmas.{one_text-rows}
 use Rattle.program_shell.specs.Flags.{IsUnflagged}
 use Rattle.command_line.proofs.line.journal_of.Goals as goal
 
--- no test is both true and false
 no_both : {b : Bool} → b ≡ true → b ≡ false → ⊥
 no_both one other = search rules
 

@@ -1,4 +1,4 @@
-use Rattle.std.proofs.Common.{◌≡◌, [], false, length, take}
+use Rattle.std.proofs.Common.{◌≡◌, [], false, length, take, vec_len}
 use Rattle.std.specs.List.{sum_by}
 use Rattle.match_model.specs.Draft.{lists_left, are_over}
 use Rattle.match_model.specs.Owners.{kept_lists}
@@ -9,4 +9,5 @@ invariant-loop-owner l = record {
   ended : l.kept.rows ≡ take l.owner (kept_lists (lists_left l.lists l.withdrawn) l.rows.rows);
   none_begun : l.kept.begun ≡ [];
   within : are_over l.most (sum_by length (take l.owner (kept_lists (lists_left l.lists l.withdrawn) l.rows.rows))) ≡ false;
+  room : vec_len l.places ≡ l.others;
 }

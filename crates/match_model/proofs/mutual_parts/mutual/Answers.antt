@@ -15,11 +15,11 @@ owners-requires-clause-below c =
 pub owners-requires-clause-distinct : goal.owners-requires-clause-distinct
 owners-requires-clause-distinct c = left_distinct c.args.theirs.now c.args.theirs_withdrawn.now (length c.args.mine.now) c.requires.others
 
-pub kept_with_ranks-requires-clause-lists : goal.kept_with_ranks-requires-clause-lists
-kept_with_ranks-requires-clause-lists c = subst (AreLists c.args.mine.now) (sym c.len-2.ensures) c.requires.lists
+pub all_kept-requires-clause-lists : goal.all_kept-requires-clause-lists
+all_kept-requires-clause-lists c = subst (AreLists c.args.mine.now) (sym c.len-2.ensures) c.requires.lists
 
-pub kept_with_ranks-requires-clause-rows : goal.kept_with_ranks-requires-clause-rows
-kept_with_ranks-requires-clause-rows c =
+pub all_kept-requires-clause-rows : goal.all_kept-requires-clause-rows
+all_kept-requires-clause-rows c =
     let left : List (List ℕ) = lists_left c.args.theirs.now c.args.theirs_withdrawn.now in
     let owned : AreOwners (length c.args.mine.now) (length c.args.theirs.now) left c.in_ok-rows.rows.rows = subst (λ (n : ℕ). AreOwners n (length c.args.theirs.now) left c.in_ok-rows.rows.rows) c.len.ensures c.in_ok-rows.ensures in
     subst (λ (n : ℕ). AreRows (length c.args.mine.now) n c.in_ok-rows.rows.rows) (sym c.len-2.ensures) (AreRows-owners (length c.args.mine.now) (length c.args.theirs.now) left c.in_ok-rows.rows.rows owned)
@@ -29,18 +29,18 @@ returns-clause-lists c =
     let left : List (List ℕ) = lists_left c.args.theirs.now c.args.theirs_withdrawn.now in
     let owned : AreOwners (length c.args.mine.now) (length c.args.theirs.now) left c.in_ok-rows.rows.rows = subst (λ (n : ℕ). AreOwners n (length c.args.theirs.now) left c.in_ok-rows.rows.rows) c.len.ensures c.in_ok-rows.ensures in
     let made = made_is c.args.mine.now c.args.theirs.now c.args.mine_withdrawn.now c.args.theirs_withdrawn.now c.in_ok-rows.rows.rows owned in
-    subst (λ (lists : List (List ℕ)). IfOk c.kept_with_ranks.result (λ made. made.0 ≡ record { rows = lists; begun = [] })) made c.kept_with_ranks.ensures.lists
+    subst (λ (lists : List (List ℕ)). IfOk c.all_kept.result (λ made. made ≡ record { rows = lists; begun = [] })) made c.all_kept.ensures.lists
 
 pub returns-clause-within : goal.returns-clause-within
 returns-clause-within c =
     let left : List (List ℕ) = lists_left c.args.theirs.now c.args.theirs_withdrawn.now in
     let owned : AreOwners (length c.args.mine.now) (length c.args.theirs.now) left c.in_ok-rows.rows.rows = subst (λ (n : ℕ). AreOwners n (length c.args.theirs.now) left c.in_ok-rows.rows.rows) c.len.ensures c.in_ok-rows.ensures in
     let made = made_is c.args.mine.now c.args.theirs.now c.args.mine_withdrawn.now c.args.theirs_withdrawn.now c.in_ok-rows.rows.rows owned in
-    subst (λ (lists : List (List ℕ)). OnOk c.kept_with_ranks.result (are_over (Some c.args.most) (sum_by length lists) ≡ false)) made c.kept_with_ranks.ensures.within
+    subst (λ (lists : List (List ℕ)). OnOk c.all_kept.result (are_over (Some c.args.most) (sum_by length lists) ≡ false)) made c.all_kept.ensures.within
 
 pub returns-clause-cause : goal.returns-clause-cause
 returns-clause-cause c =
     let left : List (List ℕ) = lists_left c.args.theirs.now c.args.theirs_withdrawn.now in
     let owned : AreOwners (length c.args.mine.now) (length c.args.theirs.now) left c.in_ok-rows.rows.rows = subst (λ (n : ℕ). AreOwners n (length c.args.theirs.now) left c.in_ok-rows.rows.rows) c.len.ensures c.in_ok-rows.ensures in
     let made = made_is c.args.mine.now c.args.theirs.now c.args.mine_withdrawn.now c.args.theirs_withdrawn.now c.in_ok-rows.rows.rows owned in
-    subst (λ (lists : List (List ℕ)). IfErr c.kept_with_ranks.result (IsGatherFault (Some c.args.most) (sum_by length lists))) made c.kept_with_ranks.ensures.cause
+    subst (λ (lists : List (List ℕ)). IfErr c.all_kept.result (IsGatherFault (Some c.args.most) (sum_by length lists))) made c.all_kept.ensures.cause

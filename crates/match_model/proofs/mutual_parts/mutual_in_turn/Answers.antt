@@ -1,32 +1,48 @@
-use Rattle.std.proofs.Common.{◌≡◌, ◌∙◌, ℕ, List, [], ltb, true, length, sym, subst}
+use Rattle.std.proofs.Common.{◌≡◌, ◌∙◌, ℕ, List, [], ltb, true, length, sym, subst, ap}
 use Rattle.std.specs.List.{All, list_all, sum_by}
-use Rattle.std.specs.Prelude.{IfOk}
 use Rattle.match_model.specs.Draft.{lists_left, AreLists}
-use Rattle.match_model.specs.Owners.{AreOwners, AreRows, kept_lists}
+use Rattle.match_model.specs.Owners.{AreOwners, AreRows, AreChoices, kept_lists}
+use Rattle.match_model.specs.Rows.{RowLists}
+use Rattle.match_model.specs.declared.fault.ModelFault.TheVariants.{Memory}
 use Rattle.match_model.proofs.Mutual.{length-lists_left}
-use Rattle.match_model.proofs.Entered.{AreRows-owners, kept_are_mutual}
-use Rattle.match_model.proofs.Gathered.{memory_alone}
+use Rattle.match_model.proofs.Entered.{AreRows-owners, kept_are_mutual, kept_covered, length-kept_lists}
+use Rattle.match_model.proofs.Gathered.{memory_alone, same_err}
 use Rattle.match_model.proofs.mutual_parts.mutual_in_turn.Goals as goal
 
 pub owners_of_rows-requires-clause-below : goal.owners_of_rows-requires-clause-below
 owners_of_rows-requires-clause-below c = subst (λ (n : ℕ). All (λ list. list_all (λ x. ltb x n) list ≡ true) c.args.theirs.now.rows) (sym c.len.ensures) c.requires.below
 
-pub kept_with_ranks-requires-clause-lists : goal.kept_with_ranks-requires-clause-lists
-kept_with_ranks-requires-clause-lists c = subst (AreLists c.args.mine.now) (sym c.len-2.ensures) c.requires.lists
+pub all_kept-requires-clause-lists : goal.all_kept-requires-clause-lists
+all_kept-requires-clause-lists c = subst (AreLists c.args.mine.now) (sym c.len-2.ensures) c.requires.lists
 
-pub kept_with_ranks-requires-clause-rows : goal.kept_with_ranks-requires-clause-rows
-kept_with_ranks-requires-clause-rows c =
-    let many : c.len-2.result ≡ length c.args.theirs.now.rows = c.len-2.ensures in
-    let owned : AreOwners (length c.args.mine.now) (length c.args.theirs.now.rows) c.args.theirs.now.rows c.in_ok-rows.rows.rows = subst (λ (n : ℕ). AreOwners n (length c.args.theirs.now.rows) c.args.theirs.now.rows c.in_ok-rows.rows.rows) c.len.ensures c.in_ok-rows.ensures in
-    subst (λ (n : ℕ). AreRows (length c.args.mine.now) n c.in_ok-rows.rows.rows) (sym many)
-    (AreRows-owners (length c.args.mine.now) (length c.args.theirs.now.rows) c.args.theirs.now.rows c.in_ok-rows.rows.rows owned)
+pub all_kept-requires-clause-rows : goal.all_kept-requires-clause-rows
+all_kept-requires-clause-rows c =
+    let rows : List (List ℕ) = c.in_ok-rows.rows.rows in
+    let owned : AreOwners (length c.args.mine.now) (length c.args.theirs.now.rows) c.args.theirs.now.rows rows = subst (λ (n : ℕ). AreOwners n (length c.args.theirs.now.rows) c.args.theirs.now.rows rows) c.len.ensures c.in_ok-rows.ensures in
+    subst (λ (n : ℕ). AreRows (length c.args.mine.now) n rows) (sym c.len-2.ensures)
+    (AreRows-owners (length c.args.mine.now) (length c.args.theirs.now.rows) c.args.theirs.now.rows rows owned)
 
 pub returns-clause-lists : goal.returns-clause-lists
 returns-clause-lists c =
+    let rows : List (List ℕ) = c.in_ok-rows.rows.rows in
     let left : List (List ℕ) = lists_left c.args.mine.now c.args.mine_withdrawn.now in
-    let owned : AreOwners (length left) (length c.args.theirs.now.rows) c.args.theirs.now.rows c.in_ok-rows.rows.rows =
-    subst (λ (n : ℕ). AreOwners n (length c.args.theirs.now.rows) c.args.theirs.now.rows c.in_ok-rows.rows.rows) (c.len.ensures ∙ sym (length-lists_left c.args.mine.now c.args.mine_withdrawn.now)) c.in_ok-rows.ensures in
-    subst (λ (lists : List (List ℕ)). IfOk c.kept_with_ranks.result (λ made. made.0 ≡ record { rows = lists; begun = [] })) (kept_are_mutual left c.args.theirs.now.rows c.in_ok-rows.rows.rows owned) c.kept_with_ranks.ensures.lists
+    let owned : AreOwners (length left) (length c.args.theirs.now.rows) c.args.theirs.now.rows rows =
+    subst (λ (n : ℕ). AreOwners n (length c.args.theirs.now.rows) c.args.theirs.now.rows rows) (c.len.ensures ∙ sym (length-lists_left c.args.mine.now c.args.mine_withdrawn.now)) c.in_ok-rows.ensures in
+    c.in_ok-kept.ensures.lists ∙ ap (λ (lists : List (List ℕ)). record { rows = lists; begun = [] }) (kept_are_mutual left c.args.theirs.now.rows rows owned)
 
-pub returns-clause-cause : goal.returns-clause-cause
-returns-clause-cause c = memory_alone (sum_by length (kept_lists (lists_left c.args.mine.now c.args.mine_withdrawn.now) c.in_ok-rows.rows.rows)) c.kept_with_ranks.result c.kept_with_ranks.ensures.cause
+pub returns-clause-choices : goal.returns-clause-choices
+returns-clause-choices c =
+    let rows : List (List ℕ) = c.in_ok-rows.rows.rows in
+    let left : List (List ℕ) = lists_left c.args.mine.now c.args.mine_withdrawn.now in
+    let kept = ap (λ (t : RowLists ℕ). t.rows) c.in_ok-kept.ensures.lists in
+    subst (λ (lists : List (List ℕ)). AreChoices lists rows) (sym kept) (record {
+      one_row_each = c.in_ok-rows.ensures.one_each ∙ c.len.ensures ∙ sym (length-kept_lists left rows ∙ length-lists_left c.args.mine.now c.args.mine_withdrawn.now);
+      covered = kept_covered left rows;
+      rising = (AreRows-owners c.len.result (length c.args.theirs.now.rows) c.args.theirs.now.rows rows c.in_ok-rows.ensures).rising;
+    })
+
+pub returns-in_err-kept-clause-cause : goal.returns-in_err-kept-clause-cause
+returns-in_err-kept-clause-cause c =
+    let rows : List (List ℕ) = c.in_ok-rows.rows.rows in
+    same_err c.from_residual-in_err-kept.result c.in_err-kept.field-0.0 (λ fault. fault ≡ Memory) c.from_residual-in_err-kept.ensures.1
+    (memory_alone (sum_by length (kept_lists (lists_left c.args.mine.now c.args.mine_withdrawn.now) rows)) c.in_err-kept.field-0.0 c.in_err-kept.ensures.cause)

@@ -7,8 +7,8 @@ use Rattle.match_model.proofs.Rankings.{is_listed_at}
 use Rattle.match_model.proofs.Entered.{AreStepped-more, AreStepped-unlisted, new_item}
 use Rattle.match_model.proofs.owners.enter.Goals as goal
 
-pub set-requires : goal.set-requires
-set-requires c =
+pub set-choice-requires : goal.set-choice-requires
+set-choice-requires c =
     let i : ℕ = c.loop-item.item-index in
     let list : List ℕ = c.args.items.now in
     let x : ℕ = get_or list i 0 in
@@ -41,7 +41,7 @@ loop-item-preserved c =
     let many = c.requires.one_each in
     let step : ℕ → List ℕ → List ℕ = λ x row. set row (get_or c.args.counts.now x 0) c.args.owner in
     let count : get_or c.loop-item.counts x 0 ≡ get_or c.args.counts.now x 0 = AreStepped-unlisted 0 (λ (x n : ℕ). n + 1) (take i list) c.args.counts.now c.loop-item.counts x c.loop-item.invariant.counted below new in
-    let made = ap (λ (v : RowLists ℕ). v.rows) c.set.ensures ∙ ap (λ (k : ℕ). set c.loop-item.rows.rows x (set (list_at c.loop-item.rows.rows x) k c.args.owner)) count in
+    let made = ap (λ (v : RowLists ℕ). v.rows) c.set-choice.ensures ∙ ap (λ (k : ℕ). set c.loop-item.rows.rows x (set (list_at c.loop-item.rows.rows x) k c.args.owner)) count in
     record {
       entered = subst (AreStepped [] step (take (i + 1) list) c.args.rows.now.rows) (sym made)
           (AreStepped-more [] step list i c.args.rows.now.rows c.loop-item.rows.rows c.loop-item-test.true new (omega arith) c.loop-item.invariant.entered);

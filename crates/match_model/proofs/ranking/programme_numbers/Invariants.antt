@@ -1,5 +1,8 @@
-use Rattle.std.proofs.Common.{◌≡◌, take}
+use Rattle.std.proofs.Common.{◌≡◌, ◌+◌, ◌≤◌, length, take, vec_len, vec_capacity}
 use Rattle.match_model.proofs.ranking.programme_numbers.Given as goal
 
 abbrev pub invariant-loop-number : goal.invariant-loop-number
-invariant-loop-number l = l.named.items ≡ take l.number-index l.numbers
+invariant-loop-number l = record {
+  named : l.named.items ≡ take l.number-index l.numbers;
+  room : vec_len l.named + length l.numbers ≤ vec_capacity l.named + l.number-index;
+}

@@ -8,14 +8,14 @@ use Rattle.match_reasons.proofs.Kept.{lists_of_pair, written_parts}
 use Rattle.match_reasons.proofs.Firsts.{first_blocking, first_full}
 use Rattle.match_reasons.proofs.asking.first_reason.Goals as goal
 
--- what is known of an instance or of lists is known of those that are equal to them
+-- a fact about an instance or lists holds for an equal instance or equal lists
 quota_is : (i j : Instance) (p n : ℕ) → i ≡ j → n ≡ quota i p → n ≡ quota j p
 quota_is i j p n e f = f ∙ ap (λ (k : Instance). quota k p) e
 
 rank_written : (v w : Written) (p r : ℕ) (o : Option ℕ) → v ≡ w → o ≡ rank (list_at v.programme_lists p) r → o ≡ rank (list_at w.programme_lists p) r
 rank_written v w p r o e f = f ∙ ap (λ (x : Written). rank (list_at x.programme_lists p) r) e
 
--- a resident who gets one of the last answers has a rank on the programme's list
+-- a resident who gets `Full` or `Blocking` has a rank on the programme's list
 pub returns-in_default-rank_of_resident-clause-first : goal.returns-in_default-rank_of_resident-clause-first
 returns-in_default-rank_of_resident-clause-first c =
     let w = lists_of_pair c.args.listed.now.instance c.args.listed.now.written c.args.resident c.args.programme c.instance-inst.ensures.lists in

@@ -7,7 +7,7 @@ use Rattle.match_reasons.proofs.Kept.{lists_of_pair, written_parts, acceptable_w
 use Rattle.match_reasons.proofs.Firsts.{asks, before_none, before_unlisted, before_later, first_unranked, first_matched, first_better}
 use Rattle.match_reasons.proofs.asking.residents_reason.Goals as goal
 
--- what is known of an instance or of lists is known of those that are equal to them
+-- a fact about an instance or lists holds for an equal instance or equal lists
 resident_stays : (i j : Instance) (r : ℕ) (b : Bool) → i ≡ j → b ≡ is_withdrawn i.residents_withdrawn r → b ≡ false → is_withdrawn j.residents_withdrawn r ≡ false
 resident_stays i j r b e f g = sym (ap (λ (k : Instance). is_withdrawn k.residents_withdrawn r) e) ∙ sym f ∙ g
 

@@ -9,15 +9,15 @@ use std::alloc::{AllocError, Global};
 use std::test::Fail;
 use test_support::randomness::OneByte;
 
-// Whether reading a docket within the national limits ends as expected: with a fault of this text, or well if the text
-// is `read`.
+// Whether reading a docket within the national limits ends as expected: with a fault of this text, or without a fault
+// if the text is `read`.
 fn tells(alloc: Global, text: &str, wanted: &str) -> Result<bool, AllocError> {
     let limits = Limits::National;
     match read_docket_within(&OneByte(7), alloc, limits, text.as_bytes()) {
         Ok(_) => Ok(wanted == "read"),
         Err(fault) => {
-            let told = fault.within(limits).to_string(alloc)?;
-            Ok(told.as_str() == wanted)
+            let fault_text = fault.within(limits).to_string(alloc)?;
+            Ok(fault_text.as_str() == wanted)
         }
     }
 }

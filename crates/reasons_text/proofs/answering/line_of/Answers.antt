@@ -5,9 +5,9 @@ use Rattle.reasons_text.proofs.answering.line_of.Goals as goal
 
 pub returns : goal.returns
 returns c =
-    let said = line (naming_of c.args.manner.now.names) c.args.manner.now.without_ranks c.args.resident c.args.programme c.reason-told.result in
+    let said = line (naming_of c.args.manner.now.names) c.args.manner.now.without_ranks c.args.resident c.args.programme c.reason-reason.result in
     record {
-      reason = c.reason-told.result;
-      first = c.reason-told.ensures;
+      reason = c.reason-reason.result;
+      first = c.reason-reason.ensures;
       text_is = ap (λ v. v.items) c.into_bytes.ensures.value ∙ c.in_ok-push_line.ensures ∙ ap (λ (t : List ℕ). t ++ said) c.new-text.ensures.bytes;
     }

@@ -3,7 +3,6 @@ use Rattle.clap.specs.Words.{found_of}
 use Rattle.clap.proofs.WalkLemmas.{first_value-rows, one_text-rows}
 use Rattle.reasons_text.proofs.line.asked.Goals as goal
 
--- no test is both true and false
 no_both : {b : Bool} → b ≡ true → b ≡ false → ⊥
 no_both one other = search rules
 

@@ -7,6 +7,6 @@ pub returns : goal.returns
 returns c =
     let members = c.args.lists.now.members in (
       c.in_ok-held.ensures.0,
-      c.in_ok-stable.ensures.text ∙ ap (λ (before : List ℕ). before ++ folder_text members (receipts_of c.in_ok-held.held)) c.new-said.ensures.items ∙ ap (folder_text members) c.in_ok-held.ensures.1,
+      c.in_ok-stable.ensures.text ∙ ap (λ (before : List ℕ). before ++ folder_text members (receipts_of c.in_ok-held.held)) c.new-text.ensures.items ∙ ap (folder_text members) c.in_ok-held.ensures.1,
       c.in_ok-stable.ensures.stable ∙ ap (is_stable members) c.in_ok-held.ensures.1,
     )

@@ -7,8 +7,8 @@ pub returns : goal.returns
 returns g c = inr (record {
   answer = c.serve_pair-answer.result;
   appends = record {
-    resident = c.as_slice-one.result.now;
-    programme = c.as_slice-other.result.now;
+    resident = c.as_slice-resident.result.now;
+    programme = c.as_slice-programme.result.now;
     answers = compared g.W.Write.contents _ _ c.serve_pair-answer.result _ _ _ _ _ c.serve_pair-answer.ensures.good c.serve_pair-answer.ensures.told c.serve_pair-answer.ensures.agree c.serve_pair-answer.ensures.fault c.serve_pair-answer.ensures.unwritten;
   };
   tells = search rules;

@@ -1,5 +1,5 @@
 use Rattle.std.proofs.Common.{ap, ◌∙◌, get_or, false}
-use Rattle.std.specs.Prelude.{not, ◌||◌, nat_eq}
+use Rattle.std.specs.Prelude.{◌||◌, nat_eq}
 use Rattle.docket_names.proofs.MemberFacts.{noted_set}
 use Rattle.docket_names.proofs.name_set.NameSet.add.Goals as goal
 

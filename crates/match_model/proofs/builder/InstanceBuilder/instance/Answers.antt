@@ -3,19 +3,18 @@ use Rattle.std.proofs.lemmas.Bool.{ltb-false}
 use Rattle.std.specs.Prelude.{Option, ◌<◌, ◌⊎◌}
 use Rattle.match_model.specs.declared.fault.ModelFault.{ModelFault}
 use Rattle.match_model.specs.declared.fault.ModelFault.TheVariants.{Memory, TooManyPairs}
-use Rattle.match_model.specs.Instance.{Instance, IsWellFormed, pair_count, list_at}
+use Rattle.match_model.specs.Instance.{Instance, IsWellFormed, pair_count}
 use Rattle.std.specs.List.{All, list_all, sum_by}
 use Rattle.match_model.specs.Limits.{most_pairs, IsWithin}
 use Rattle.match_model.proofs.LimitFacts.{programmes_bounded, residents_bounded}
-use Rattle.match_model.specs.RankTable.{AreRankTables, AreListedBack, AreOfferRanks}
+use Rattle.match_model.specs.Owners.{AreChoices}
 use Rattle.match_model.specs.Rows.{RowLists}
 use Rattle.match_model.specs.declared.limits.TheConstants.{MAX_PAIRS}
 use Rattle.match_model.specs.Draft.{Draft, AreLists, IsFinishFault, instance_of, lists_left, mutual_left, mutual_lists, has_no_repeats}
-use Rattle.match_model.proofs.Kept.{IsWithin-instance_of, IsWellFormed-instance_of, mutual_in_turn, listed_back}
+use Rattle.match_model.proofs.Kept.{IsWithin-instance_of, IsWellFormed-instance_of, mutual_in_turn}
 use Rattle.match_model.proofs.Mutual.{left_below, left_distinct, length-mutual_lists, length-lists_left}
 use Rattle.match_model.proofs.Entered.{mutual_below, mutual_distinct}
 use Rattle.match_model.proofs.Gathered.{same_err, fault_of_most}
-use Rattle.match_model.proofs.RankTables.{length_tables}
 use Rattle.match_model.proofs.builder.InstanceBuilder.instance.Goals as goal
 
 -- equal flags give the same mutual lists
@@ -45,15 +44,6 @@ many_mutual ms fs ts gs = length-mutual_lists (lists_left ms fs) (lists_left ts 
 many_rows : (ms : List (Option (List ℕ))) (fs : List Bool) (ts : List (Option (List ℕ))) (gs : List Bool) (rows : RowLists ℕ) → rows ≡ record { rows = mutual_left ms fs ts gs; begun = [] } → length rows.rows ≡ length ms
 many_rows ms fs ts gs rows e = ap (λ (v : RowLists ℕ). length v.rows) e ∙ many_mutual ms fs ts gs
 
--- the ranks of offers are right for lists that are equal to the lists read
-same_offer_ranks : (ps ps' rs rs' ranks : List (List ℕ)) → ps ≡ ps' → rs ≡ rs' → AreOfferRanks ps rs ranks → AreOfferRanks ps' rs' ranks
-same_offer_ranks ps ps' rs rs' ranks p r h = subst (λ (ls : List (List ℕ)). AreOfferRanks ls rs' ranks) p (subst (λ (ls : List (List ℕ)). AreOfferRanks ps ls ranks) r h)
-
--- a programme stands on the mutual list of each resident on its own mutual list
-back : (ps rs mine theirs : List (List ℕ)) → ps ≡ mutual_lists mine theirs → rs ≡ mutual_lists theirs mine → (p : ℕ) → AreListedBack rs p (list_at ps p)
-back ps rs mine theirs e f p =
-    subst (λ (ls : List (List ℕ)). AreListedBack rs p (list_at ls p)) (sym e) (subst (λ (ls : List (List ℕ)). AreListedBack ls p (list_at (mutual_lists mine theirs) p)) (sym f) (listed_back mine theirs p))
-
 pub mutual_in_turn-requires-clause-few : goal.mutual_in_turn-requires-clause-few
 mutual_in_turn-requires-clause-few c =
     let many = many_rows _ _ _ _ c.in_ok-programmes.programmes c.in_ok-programmes.ensures.lists in
@@ -79,31 +69,12 @@ mutual_in_turn-requires-clause-distinct c =
     subst (All (λ list. has_no_repeats list ≡ true)) (sym rows)
     (mutual_distinct (lists_left c.self.inside.programme_lists c.deref.result.now) (lists_left c.self.inside.resident_lists c.deref-2.result.now) (left_distinct c.self.inside.programme_lists c.deref.result.now n c.self.invariant.programme_lists))
 
-pub offer_ranks-requires-clause-few : goal.offer_ranks-requires-clause-few
-offer_ranks-requires-clause-few c =
-    let many = many_rows _ _ _ _ c.in_ok-programmes.programmes c.in_ok-programmes.ensures.lists in
-    let each = c.self.invariant.one_list_each in
-    omega (arith, many, each, c.self.invariant.programmes_within, programmes_bounded c.self.inside.limits)
-
-pub offer_ranks-requires-clause-below : goal.offer_ranks-requires-clause-below
-offer_ranks-requires-clause-below c =
-    let rows = ap (λ (v : RowLists ℕ). v.rows) c.in_ok-programmes.ensures.lists in
-    let programmes = programmes_made c.in_ok-programmes.programmes _ _ _ _ _ _ c.in_ok-programmes.ensures.lists c.deref.ensures.value c.deref-2.ensures.value in
-    let residents = residents_made c.in_ok-residents.residents c.in_ok-programmes.programmes _ _ _ _ _ programmes c.in_ok-residents.ensures.lists c.deref-3.ensures.value in
-    let n : ℕ = length c.self.inside.resident_lists in
-    let tables : length c.in_ok-residents.residents.rows ≡ length c.in_ok-residents.resident_ranks.rows = length_tables c.in_ok-residents.residents.rows c.in_ok-residents.resident_ranks.rows c.in_ok-residents.ensures.ranks.each in
-    let many : length c.in_ok-residents.residents.rows ≡ n = ap (length {A = List ℕ}) residents ∙ many_mutual _ _ _ _ in
-    let below : All (λ list. list_all (λ x. ltb x n) list ≡ true) c.in_ok-programmes.programmes.rows = subst (All (λ list. list_all (λ x. ltb x n) list ≡ true)) (sym rows)
-    (mutual_below (lists_left c.self.inside.programme_lists c.deref.result.now) (lists_left c.self.inside.resident_lists c.deref-2.result.now) n (left_below c.self.inside.programme_lists c.deref.result.now n c.self.invariant.programme_lists)) in
-    subst (λ (k : ℕ). All (λ list. list_all (λ x. ltb x k) list ≡ true) c.in_ok-programmes.programmes.rows) (sym many ∙ tables) below
-
 pub invariant_of-result : goal.invariant_of-result
 invariant_of-result c =
     let programmes = programmes_made c.in_ok-programmes.programmes _ _ _ _ _ _ c.in_ok-programmes.ensures.lists c.deref.ensures.value c.deref-2.ensures.value in
     let residents = residents_made c.in_ok-residents.residents c.in_ok-programmes.programmes _ _ _ _ _ programmes c.in_ok-residents.ensures.lists c.deref-3.ensures.value in
-    let made_ps = ap (λ (v : RowLists ℕ). v.rows) c.in_ok-into_residents.ensures in
     let made_rs = ap (λ (v : RowLists ℕ). v.rows) c.in_ok-into_programmes.ensures in
-    let ps = made_ps ∙ programmes in
+    let ps = ap (λ (v : RowLists ℕ). v.rows) c.in_ok-into_residents.ensures ∙ programmes in
     let rs = made_rs ∙ residents in
     let parts = same_instance _ _ _ _ _ _ _ _ _ _ (c.in_ok-from_slice.ensures.items ∙ c.deref-4.ensures.value) ps rs (c.in_ok-from_slice-2.ensures.items ∙ c.deref-5.ensures.value) (c.in_ok-from_slice-3.ensures.items ∙ c.deref-6.ensures.value) in
     let d : Draft = record { limits = c.self.inside.limits; quotas = c.self.inside.quotas.items; programme_lists = c.self.inside.programme_lists; resident_lists = c.self.inside.resident_lists; programmes_withdrawn = c.self.inside.programmes_withdrawn.items; residents_withdrawn = c.self.inside.residents_withdrawn.items } in
@@ -114,10 +85,7 @@ invariant_of-result c =
     let counted : c.item_count-pairs.result ≡ pair_count (instance_of d) = omega (arith, c.item_count-pairs.ensures, all, made) in
     record {
       rankings = subst (λ (inst : Instance). IsWellFormed inst c.item_count-pairs.result) (sym parts) (IsWellFormed-instance_of d c.item_count-pairs.result c.self.invariant few counted);
-      programme_ranks = subst (λ (lists : List (List ℕ)). AreRankTables lists c.in_ok-programmes.programme_ranks.rows) (programmes ∙ sym ps) c.in_ok-programmes.ensures.ranks;
-      resident_ranks = subst (λ (lists : List (List ℕ)). AreRankTables lists c.in_ok-residents.resident_ranks.rows) (residents ∙ sym rs) c.in_ok-residents.ensures.ranks;
-      offer_ranks = same_offer_ranks _ _ _ _ _ (sym made_ps) (sym made_rs)
-          (c.in_ok-offer_ranks.ensures c.in_ok-residents.residents.rows c.in_ok-residents.ensures.ranks (back c.in_ok-programmes.programmes.rows c.in_ok-residents.residents.rows _ _ programmes residents));
+      choices = subst (λ (lists : List (List ℕ)). AreChoices lists c.in_ok-residents.choices.rows.rows) (sym made_rs) c.in_ok-residents.ensures.choices;
     }
 
 pub returns-clause-made : goal.returns-clause-made

@@ -13,4 +13,4 @@ returns-in-Err-NoSheet-clause-fault g c =
     inr (inr (refl, record { contents = _; written = _; read = c.in-Ok.ensures.read; none = none }))
 
 pub returns-clause-fault : goal.returns-clause-fault
-returns-clause-fault g c = inr (inl (record { first = c.in-Err.there; is_first = c.in-Err.ensures.fault; is_told = c.in_its_file.ensures }))
+returns-clause-fault g c = inr (inl (record { first = c.in-Err.file_fault; is_first = c.in-Err.ensures.fault; is_told = c.in_its_file.ensures }))

@@ -11,7 +11,7 @@ returns-clause-text c =
     let rs = receipts_of c.args.self.now in
     let sides = c.args.self.now.sides.items in
     let differing : c.as_slice-2.result.now ≡ differing_pairs rs = c.as_slice-2.ensures.value ∙ c.in_ok-differing.ensures in
-    let there : length c.as_slice-there.result.now ≡ length rs = ap length c.as_slice-there.ensures.value ∙ sym (length-map sides receipt_of) in
+    let there : length c.as_slice-present.result.now ≡ length rs = ap length c.as_slice-present.ensures.value ∙ sym (length-map sides receipt_of) in
     let compared : length c.as_slice-3.result.now ≡ length (pairs_of rs) = ap length (c.as_slice-3.ensures.value ∙ c.in_ok-pairs.ensures) in
     let differ : length c.as_slice-4.result.now ≡ length (differing_pairs rs) = ap length (c.as_slice-4.ensures.value ∙ c.in_ok-differing.ensures) in
     grows_three c.args.text.now c.put_differing.new.text c.put_counts.new.text c.put_stable.new.text _ _ _

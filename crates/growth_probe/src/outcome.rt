@@ -1,0 +1,67 @@
+//! What a call did, and the marks in the output before and after the call.
+use std::io::Write;
+
+/// What a call did.
+#[derive(Clone, Copy, Debug, PartialEq, Eq)]
+pub(super) enum Outcome {
+    /// The call gave its right answer.
+    Answered,
+    /// The call answered that memory ran out, and changed nothing. When it was made again, it gave its right
+    /// answer.
+    WantedMemory,
+    /// The call answered that a worker could not be started. When it was made again, it gave its right answer.
+    WantedThread,
+    /// The call did anything else.
+    Wrong,
+}
+
+impl Outcome {
+    /// What a call did that answered without a fault; `is_right` says whether its answer was right.
+    pub(super) fn at_once(is_right: bool) -> Outcome {
+        if is_right {
+            Outcome::Answered
+        } else {
+            Outcome::Wrong
+        }
+    }
+
+    /// What a call did that first answered that memory ran out; `is_right` says whether its second answer
+    /// was right.
+    pub(super) fn after_memory(is_right: bool) -> Outcome {
+        if is_right {
+            Outcome::WantedMemory
+        } else {
+            Outcome::Wrong
+        }
+    }
+
+    /// What a call did that first answered that a worker could not be started; `is_right` says whether its
+    /// second answer was right.
+    pub(super) fn after_thread(is_right: bool) -> Outcome {
+        if is_right {
+            Outcome::WantedThread
+        } else {
+            Outcome::Wrong
+        }
+    }
+
+    /// The word for what the call did.
+    pub(super) fn text(self) -> &'static str {
+        match self {
+            Outcome::Answered => "answered",
+            Outcome::WantedMemory => "memory",
+            Outcome::WantedThread => "thread",
+            Outcome::Wrong => "wrong",
+        }
+    }
+}
+
+/// Writes the mark after which growths of memory are counted.
+pub(super) fn begin<W: Write>(out: &mut W) {
+    let _ = out.write_all(b"call\n");
+}
+
+/// Writes the mark after which no growth of memory is counted.
+pub(super) fn end<W: Write>(out: &mut W) {
+    let _ = out.write_all(b"done\n");
+}

@@ -1,0 +1,6 @@
+use Rattle.std.proofs.Common.{ℕ, ◌<◌, get_or}
+use Rattle.std.specs.Prelude.{◌≢◌}
+use Rattle.match_model.proofs.guesses.rank_of_programme.Given as goal
+
+abbrev pub invariant-loop-i : goal.invariant-loop-i
+invariant-loop-i l = (k : ℕ) → k < l.i → get_or l.list k 0 ≢ l.programme
