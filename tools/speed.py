@@ -187,9 +187,9 @@ def parts(top: str) -> str:
     return f"Measured: {lines}.\n\n{table('part | Rattle, best and median | Rust | ratio', rows)}"
 
 
-def part_ratios(top: str, folder: str, ending: str = "", kind: str = "") -> List[float]:
-    """The ratios of the medians, or with `_best` of the best, of those runs of a benchmark that end so."""
-    return [int(it[f"rattle{kind}"]) / int(it[f"rust{kind}"]) for it in read(top, f"{folder}/figures.csv").rows if it["what"].endswith(ending)]
+def part_ratios(top: str, folder: str, ending: str = "") -> List[float]:
+    """The ratios of the medians of those runs of a benchmark that end so."""
+    return [int(it["rattle"]) / int(it["rust"]) for it in read(top, f"{folder}/figures.csv").rows if it["what"].endswith(ending)]
 
 
 def of_matches(top: str) -> List[Goal]:
@@ -223,15 +223,15 @@ def of_parts(top: str) -> List[Goal]:
     lists = read(top, "limits/figures.csv").rows[:2]
     audits = [int(it["rattle"]) / 1e9 for it in read(top, "audit/figures.csv").rows]
     return [
-        Goal("instructions of `./audit` with docket and sheet, compared with a match", [int(it["audit"]) / int(it["program"]) for it in counts], ".2f times", 1.3),
+        Goal("instructions of `./audit` with docket and sheet, compared with a match, for the five dockets of *What the promises cost*", [int(it["audit"]) / int(it["program"]) for it in counts], ".2f times", 1.3),
         Goal("the longest audit or replay at the limits", [max(audits)], ".2f s", 5),
-        Goal("audit of the result, compared with Rust", part_ratios(top, "audit", "settled:audit", "_best"), ".2f times", 1.5),
+        Goal("audit of the result of 10 lists of 20,000 and of 2,000 lists of 100, compared with Rust", part_ratios(top, "audit", "settled:audit"), ".2f times", 1.5),
         Goal("processor time of the longest lists, with short names and with names of 32 bytes", [float(it["processor"]) for it in lists], ".1f s", 5),
         Goal("memory for these lists", [float(it["mb"]) for it in lists], ".0f MB", 512),
-        Goal("reading a docket, compared with Rust", part_ratios(top, "docket", ":time"), ".2f times", 1.3),
-        Goal("memory of reading a docket, compared with Rust", part_ratios(top, "docket", ":memory"), ".2f times", 3),
-        Goal("an entry into the ledger, compared with Rust", part_ratios(top, "ledger"), ".2f times", 1.5),
-        Goal("messages through a mailbox, compared with Rust", part_ratios(top, "mailbox"), ".2f times", 2),
+        Goal("reading many records, long lists and many events, compared with Rust", part_ratios(top, "docket", ":time"), ".2f times", 1.3),
+        Goal("memory of reading these three, compared with Rust", part_ratios(top, "docket", ":memory"), ".2f times", 3),
+        Goal("an entry into the ledger, with 10 lists of 20,000 and with 2,000 lists of 100, compared with Rust", part_ratios(top, "ledger"), ".2f times", 1.5),
+        Goal("messages through a mailbox, in the five cases of *Parts of a match*, compared with Rust", part_ratios(top, "mailbox"), ".2f times", 2),
     ]
 
 
