@@ -7,7 +7,7 @@ from .answers import cut, read_audit, read_replay, rows_of
 from .dictionaries import dictionary, told_name
 from .docket import Docket, read_docket, sheet_rows
 from .errors import DocketFault, MarketFault, NotValid, UnknownStatus
-from .ordered import as_name, is_nothing, wanted, whole
+from .ordered import as_name, is_nothing, of_kind, whole
 from .passes import NATIONAL, STANDARD
 from .program import DEFAULT_TIMEOUT, run_program
 from .records import records
@@ -47,7 +47,7 @@ def match(market: Market, workers: int = 2, capacity: Optional[int] = None, jour
 def _test_market(market: object) -> None:
     """NotRead, a TypeError, for what is no market."""
     from .market import Market as Known
-    wanted("the first argument is a Market", Known, market)
+    of_kind("the first argument is a Market", Known, market)
 
 
 def _count(what: str, given: object) -> str:
@@ -63,8 +63,8 @@ def read_match(market: Market, sheet: bytes, journal: bytes = b"") -> Match:
     DocketFault where they are no sheet of this market, or have a record of another part; its records are counted from
     the docket's first.
     """
-    wanted("a journal is bytes", bytes, journal)
-    places = _plain_places(market.in_docket_names(), wanted("a sheet is bytes", bytes, sheet))
+    of_kind("a journal is bytes", bytes, journal)
+    places = _plain_places(market.in_docket_names(), of_kind("a sheet is bytes", bytes, sheet))
     if places is None:
         _refuse_others(sheet, _SHEET, market.docket())
         places = read_docket(market.docket() + sheet, NATIONAL if market.is_national else STANDARD).sheet
@@ -143,7 +143,7 @@ def replay(market: Market, journal: Union[Match, bytes], places: Optional[Places
     match without one, and for a record of another part. Raises as `match`.
     """
     _test_market(market)
-    rows = wanted("a journal is a Match or bytes", (Match, bytes), journal)
+    rows = of_kind("a journal is a Match or bytes", (Match, bytes), journal)
     rows = rows.journal if isinstance(rows, Match) else rows
     if places is None and isinstance(journal, Match):
         places = journal

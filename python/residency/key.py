@@ -12,7 +12,7 @@ from typing import Iterable, List, Match, Optional, Tuple
 
 from .errors import KeyFault
 from .names import PROGRAMME, RESIDENT, Member, Names
-from .ordered import wanted
+from .ordered import of_kind
 from .records import is_name
 from .text import BadQuotes, decode, rows
 
@@ -58,7 +58,7 @@ def to_cell(name: str) -> str:
     >>> [to_cell(name) for name in ("=SUM(A1)", "-", "'t Hooft", "''=x", "Zoë", "Kim;=2+3;", "North - East")]
     ["'=SUM(A1)", "'-", "'t Hooft", "'''=x", 'Zoë', "Kim;'=2+3;", 'North - East']
     """
-    if not _ANY.search(wanted("a name is a text", str, name)):
+    if not _ANY.search(of_kind("a name is a text", str, name)):
         return name
     inside = _WITHIN.sub(_more, name)
     return "'" + inside if _needs_apostrophe(inside) else inside
@@ -70,7 +70,7 @@ def from_cell(cell: str) -> str:
     >>> [from_cell(cell) for cell in ("'=SUM(A1)", "'-", "'t Hooft", "''=x", "Zoë", "=SUM(A1)", "Kim;'=2+3;")]
     ['=SUM(A1)', '-', "'t Hooft", "'=x", 'Zoë', '=SUM(A1)', 'Kim;=2+3;']
     """
-    inside = cell[1:] if wanted("a cell is a text", str, cell).startswith("'") and _needs_apostrophe(cell) else cell
+    inside = cell[1:] if of_kind("a cell is a text", str, cell).startswith("'") and _needs_apostrophe(cell) else cell
     return _WITHIN.sub(_less, inside)
 
 
@@ -86,7 +86,7 @@ def write_key(names: Names) -> bytes:
     >>> write_key(Names.of(["Köln"], [("=Kim", "7")])).decode()
     "P,koln,Köln\\nR,kim,'=Kim,7\\n"
     """
-    wanted("a key is written of Names", Names, names)
+    of_kind("a key is written of Names", Names, names)
     return "".join(csv_row((member.side, member.docket_name, to_cell(member.name), *([to_cell(member.id)] if member.id else [])))
                    for member in names.members()).encode("utf-8")
 
@@ -106,7 +106,7 @@ def read_key(data: bytes, encoding: Optional[str] = None) -> Names:
     >>> read_key(b"\\xef\\xbb\\xbfP;koln;K\\xc3\\xb6ln;\\r\\n;;;\\r\\nR;kim;'=Kim;7\\r\\n").name("R", "kim")
     '=Kim'
     """
-    wanted("a key is bytes", bytes, data)
+    of_kind("a key is bytes", bytes, data)
     try:
         text, _ = decode(data, encoding)
     except UnicodeDecodeError as error:

@@ -10,7 +10,7 @@ from pathlib import Path
 from typing import Any, Dict, Iterable, Iterator, List, NamedTuple, Optional, Sequence, Tuple, Union
 
 from .errors import KeyFault
-from .ordered import NotRead, as_list, as_members, as_name, wanted
+from .ordered import NotRead, as_items, as_list, as_name, of_kind
 from .text import sections, shown
 
 PROGRAMME, RESIDENT = "P", "R"
@@ -102,7 +102,7 @@ def docket_names(names: Iterable[str], letter: str = "n") -> Dict[str, str]:
     >>> list(made.values())
     ['st-marys-east', 'st-marys-east-2', 'universitatsklini-koln-chirurgie', 'u738b82b3', 'u674e5a1c']
     """
-    texts = list(dict.fromkeys(wanted("a name is a text", str, as_name(name)) for name in as_members(names)))
+    texts = list(dict.fromkeys(of_kind("a name is a text", str, as_name(name)) for name in as_items(names)))
     return dict(zip(texts, _made(texts, letter)))
 
 
@@ -111,7 +111,7 @@ def _pair(given: Any) -> Tuple[str, str]:
     both = (given, "") if isinstance(as_name(given), str) else as_list(given)
     if len(both) != 2:
         raise NotRead(f"a member is a name, or a pair of a name and an ID, and this has {len(both)} parts")
-    name, id_ = (wanted("a name or an ID is a text", str, as_name(text)) for text in both)
+    name, id_ = (of_kind("a name or an ID is a text", str, as_name(text)) for text in both)
     return name, id_
 
 
@@ -157,7 +157,7 @@ class Names:
         """
         members: List[Member] = []
         for side, named in ((PROGRAMME, programmes), (RESIDENT, residents)):
-            pairs = [_pair(member) for member in as_members(named)]
+            pairs = [_pair(member) for member in as_items(named)]
             made = _made((name for name, _ in pairs), side.lower())
             members += [Member(side, docket_name, *pair) for docket_name, pair in zip(made, pairs)]
         return cls(members)

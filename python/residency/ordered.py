@@ -9,17 +9,17 @@ import operator
 from collections.abc import Iterable, KeysView, Mapping, Set
 from typing import Any, Dict, List, Optional
 
-__all__ = ["NotRead", "as_dictionary", "as_list", "as_members", "as_name", "as_names", "is_nothing", "wanted", "whole"]
+__all__ = ["NotRead", "as_dictionary", "as_items", "as_list", "as_name", "as_names", "is_nothing", "of_kind", "whole"]
 
 
 class NotRead(TypeError):
     """Why a value isn't read, as the end of a sentence that began with whose it is."""
 
 
-def wanted(what: str, kind: Any, value: Any) -> Any:
+def of_kind(what: str, kind: Any, value: Any) -> Any:
     """The value, where it is of this kind (a type, or several); else NotRead says what was wanted and what was given.
 
-    >>> wanted("a docket is bytes", bytes, "Q,north,1")
+    >>> of_kind("a docket is bytes", bytes, "Q,north,1")
     Traceback (most recent call last):
         ...
     residency.ordered.NotRead: a docket is bytes, and this is a str
@@ -102,7 +102,7 @@ def as_names(value: Any) -> List[Any]:
     return sorted(value, key=str) if isinstance(value, Set) else as_list(value)
 
 
-def as_members(value: Any) -> List[Any]:
+def as_items(value: Any) -> List[Any]:
     """The members of a list, or the keys of a mapping, in their order; NotRead as `as_list`."""
     return list(value) if isinstance(value, Mapping) else as_list(value)
 

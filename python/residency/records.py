@@ -5,7 +5,7 @@ import re
 from typing import Iterator, List, Optional, Tuple
 
 from . import text
-from .ordered import wanted
+from .ordered import of_kind
 
 BYTE_ORDER_MARK = b"\xef\xbb\xbf"
 _NAME = re.compile(r"[A-Za-z0-9._-]{1,32}\Z")
@@ -83,7 +83,7 @@ def records(data: bytes) -> Iterator[List[str]]:
     >>> list(records(b'\\xef\\xbb\\xbfQ,north,1\\r\\rP,"no""rth",kim\\n'))
     [['Q', 'north', '1'], ['P', 'no"rth', 'kim']]
     """
-    wanted("a docket is bytes", bytes, data)
+    of_kind("a docket is bytes", bytes, data)
     letters = data[len(BYTE_ORDER_MARK) if data.startswith(BYTE_ORDER_MARK) else 0:].decode("latin-1")
     at = 0
     while at < len(letters):

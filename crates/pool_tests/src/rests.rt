@@ -124,7 +124,7 @@ struct HoldsTold<R: Wait + Copy> {
     place: u32,
     entered: AtomicU32,
     next: [AtomicU32; 3],
-    is_over: AtomicBool,
+    all_else_entered: AtomicBool,
 }
 
 impl<R: Wait + Copy> HoldsTold<R> {
@@ -139,7 +139,7 @@ impl<R: Wait + Copy> HoldsTold<R> {
                 AtomicU32::new(A_PUT),
                 AtomicU32::new(A_PUT),
             ],
-            is_over: AtomicBool::new(false),
+            all_else_entered: AtomicBool::new(false),
         }
     }
 
@@ -190,7 +190,7 @@ impl<R: Wait + Copy + Sync> Gate for HoldsTold<R> {
         }
         for _ in 0..LOOKS {
             if self.entered.load(Ordering::SeqCst).saturating_add(needed) >= 4 * PAIRS {
-                self.is_over.store(true, Ordering::SeqCst);
+                self.all_else_entered.store(true, Ordering::SeqCst);
                 return;
             }
             self.clock
@@ -207,7 +207,7 @@ fn no_work_is_left_while_a_worker_is_told_of_an_entry(rt: HostRuntime) -> Result
             let gate = HoldsTold::new(rt, place);
             let outcome = ran_on(rt, rt.alloc(), &inst, Capacity::Full, workers, &gate)?;
             assert!(rt;
-                outcome.ending == Ending::Closed && gate.is_over.load(Ordering::SeqCst),
+                outcome.ending == Ending::Closed && gate.all_else_entered.load(Ordering::SeqCst),
                 "event {place}, {workers} workers"
             );
         }

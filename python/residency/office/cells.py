@@ -25,7 +25,7 @@ class Rows:
     line `sep=`; `declared` where there is such a line, `sheet` the name of a workbook's sheet, `sheets` those of all, and which rows and columns of it
     are hidden."""
 
-    rows: Iterator[Tuple[int, List[str]]]
+    unread: Iterator[Tuple[int, List[str]]]
     delimiter: str
     declared: bool
     sheet: Optional[str] = None

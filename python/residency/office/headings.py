@@ -79,7 +79,7 @@ class Words:
         return bool({"rank", items} & set(self.roles.get(word, "").split("|")))
 
     def is_heading(self, cells: List[str]) -> bool:
-        """Whether two cells or more are headings that either table may have in one language."""
+        """Whether two cells or more are headings of either table in one language, one of them of names or IDs."""
         return len([cell for cell in cells if cell]) > 1 and any(language.heads(cells) for language in self.each())
 
     def knows(self, cell: str) -> bool:

@@ -130,7 +130,7 @@ def read_given(given: Mapping[str, Given], settings: Settings, progress: Progres
     done = Read(tuple(tables), faults, market_of(tables[0], tables[1], faults, settings) if len(tables) == len(TABLES) else None)
     for table in tables:
         # The lists are in the market now, or nobody asks for them.
-        table.rows.rows = iter(())
+        table.rows.unread = iter(())
         table.unread = {}
         for entry in table.entries:
             entry.items = []
@@ -174,12 +174,12 @@ def looked_at(given: Given, name: str, settings: Settings, progress: Progress = 
     look.encoding, look.delimiter, look.sheet = text.encoding, rows.delimiter, rows.sheet
     look.sheets = rows.sheets or [name for fault in look.faults.every() for name in fault.values.get("sheets", ())]
     look.heading_row, look.headings, look.notes = heading_of(rows, settings.heading_row.get(name), name, words)
-    look.preview = list(islice(rows.rows, MOST_PREVIEW))
+    look.preview = list(islice(rows.unread, MOST_PREVIEW))
     if wanted is not None:
-        below = list(rows.rows)
-        look.more, rows.rows = [row for row in below if row[0] in wanted][:MOST_AT_FAULT], iter(below)
+        below = list(rows.unread)
+        look.more, rows.unread = [row for row in below if row[0] in wanted][:MOST_AT_FAULT], iter(below)
     if look.heading_row:
-        rows.rows = chain(look.preview, rows.rows)
+        rows.unread = chain(look.preview, rows.unread)
         columns = headed(name, OWNERS[name], look.heading_row, list(look.headings), rows, words, look.faults)
         if columns is not None:
             look.meanings, look.language = columns.meanings(OWNERS[name]), columns.language

@@ -421,7 +421,7 @@ def headed(name: str, owners: str, number: int, heading: List[str], rows: Rows, 
     columns = columns_of(name, owners, number, heading, words, faults)
     if columns is None and not words.is_heading(heading):
         faults.is_deaf = True
-        below = next((row for row, cells in islice(rows.rows, MOST_ABOVE) if words.is_heading(cells)), None)
+        below = next((row for row, cells in islice(rows.unread, MOST_ABOVE) if words.is_heading(cells)), None)
         faults.is_deaf = False
         for fault in faults.kept["heading"] if below is not None else ():
             if (fault.table, fault.row) == (name, number):
@@ -432,16 +432,16 @@ def headed(name: str, owners: str, number: int, heading: List[str], rows: Rows, 
 def heading_of(rows: Rows, first: Optional[int], name: str, words: Words) -> Tuple[int, List[str], List[Fault]]:
     """The heading row and its number: the first row, or the first from this one on; 0 where there is none. Rows of one cell above it,
     where nobody says which it is, are titles, which are noted."""
-    number, heading = next((row for row in rows.rows if row[0] >= first), NOTHING) if first is not None else NOTHING
+    number, heading = next((row for row in rows.unread if row[0] >= first), NOTHING) if first is not None else NOTHING
     if first is not None:
         return number, heading, []
     above: List[Tuple[int, List[str]]] = []
-    for row in rows.rows:
+    for row in rows.unread:
         above.append(row)
         if len(above) > MOST_TITLES or len([text for text in row[1] if text]) > 1 or words.is_heading(row[1]):
             break
     titles = above[:-1] if above and words.is_heading(above[-1][1]) else []
-    rows.rows = chain(above[len(titles) + 1:], rows.rows)
+    rows.unread = chain(above[len(titles) + 1:], rows.unread)
     cells = [Cell(name, number, 1 + next(place for place, text in enumerate(row) if text)) for number, row in titles]
     texts = [row[cell.column - 1] for cell, (_, row) in zip(cells, titles)]
     notes = [Fault("note.titles", name, cells[0].row, cells[0].column, cells, {"texts": texts})] if titles else []
@@ -465,7 +465,7 @@ def read_table(given: Given, name: str, owners: str, words: Words, options: Sett
         return table
     table.is_long, table.heading, table.language = columns.is_long, number, columns.language
     members = Members(table, heading, columns, options, faults)
-    for below, row in rows.rows:
+    for below, row in rows.unread:
         members.take(below, row)
         if len(table.entries) > members.most:
             # What is below can't be matched, and needn't be read.

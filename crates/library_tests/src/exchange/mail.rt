@@ -6,7 +6,7 @@ use std::alloc::Global;
 use test_support::events::{A, B, HOLD, X, Y, answer, nineteen_events, offer, take};
 use test_support::instances::TWO_PLACES;
 
-const NOTHING: MailLeft = MailLeft {
+const NEITHER: MailLeft = MailLeft {
     receiver_was_empty: false,
     sender_has_more: false,
 };
@@ -29,8 +29,8 @@ const BOTH: MailLeft = MailLeft {
 // What each of the nineteen events leaves in the mailboxes. An offer or an answer finds its receiver's mailbox empty
 // or not. A hear by the programme A leaves the later answers in the mailbox.
 const AFTER_NINETEEN: [MailLeft; 19] = [
-    WAS_EMPTY, WAS_EMPTY, NOTHING, NOTHING, WAS_EMPTY, NOTHING, WAS_EMPTY, NOTHING, WAS_EMPTY,
-    NOTHING, MORE, MORE, NOTHING, NOTHING, WAS_EMPTY, NOTHING, WAS_EMPTY, NOTHING, NOTHING,
+    WAS_EMPTY, WAS_EMPTY, NEITHER, NEITHER, WAS_EMPTY, NEITHER, WAS_EMPTY, NEITHER, WAS_EMPTY,
+    NEITHER, MORE, MORE, NEITHER, NEITHER, WAS_EMPTY, NEITHER, WAS_EMPTY, NEITHER, NEITHER,
 ];
 
 // Whether the core reports what is expected of the mailboxes after each event.
@@ -69,6 +69,6 @@ fn tells_of_mail_that_waits(rt: HostRuntime) {
         answer(X, A, HOLD),
         offer(A, Y),
     ];
-    let wanted = [WAS_EMPTY, NOTHING, MORE, BOTH, BOTH];
+    let wanted = [WAS_EMPTY, NEITHER, MORE, BOTH, BOTH];
     assert!(rt; tells_all(rt.alloc(), &events, &wanted, Refused::WrongFront));
 }

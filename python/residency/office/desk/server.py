@@ -135,14 +135,14 @@ class Server:
             for connection in {*late, *list(self.waiting)[:-MOST_WAITING]}:
                 self.take(connection).close()
         self.desk.over.set()
-        end = time.monotonic() + SECONDS_END
+        threads_end = time.monotonic() + SECONDS_END
         self.selector.close()
         for waits in (self.listener, *self.waiting):
             waits.close()
         for thread in threads:
             self.asked.put(None)
         for thread in threads:
-            thread.join(max(0.0, end - time.monotonic()))
+            thread.join(max(0.0, threads_end - time.monotonic()))
 
     def accept(self) -> None:
         connection, _ = self.listener.accept()
