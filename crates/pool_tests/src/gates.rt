@@ -184,7 +184,7 @@ fn a_stop_wakes_who_rests(rt: HostRuntime) -> Result<(), Fail> {
     Ok(())
 }
 
-// The index in the journal of the event that a worker entered after it had entered `own` events.
+// The index in the journal of the event that a worker entered after it had entered `earlier` events.
 fn place_of(outcome: &Outcome, worker: usize, earlier: u64) -> Option<usize> {
     let mut entered = 0_u64;
     for (place, of) in outcome.who.iter().enumerate() {

@@ -55,7 +55,7 @@ def refuse_others(sealed: Kept, now: Market) -> None:
         raise OtherTables(sealed.at, found)
 
 
-def same_lists(sealed: Kept, roots: Optional[Roots]) -> Roots:
+def checked_roots(sealed: Kept, roots: Optional[Roots]) -> Roots:
     """The roots of what was matched. OfficeError where that of the lists is another one than was sealed."""
     before = sealed.roots()
     if before is None or roots is None or (before.count, before.lists) != (roots.count, roots.lists):

@@ -270,7 +270,7 @@ def write(out: str, matched: Matched, wishes: Wishes, manifest: Dict[str, object
         if changes is not None:
             draft.write(folder.CHANGES, changes_of.changes_table(changes, wishes.language.phrases()))
         roots = running.fill(draft, matched, wishes, manifest, secret)
-        return roots if before is None else sealing.same_lists(before, roots)
+        return roots if before is None else sealing.checked_roots(before, roots)
 
 
 def seal(out: str, market: Market, details: Details, wishes: Wishes, manifest: Dict[str, object], progress: Progress = quietly) -> Roots:
