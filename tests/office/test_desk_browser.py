@@ -27,6 +27,26 @@ CONTROLS = ("button", "link", "textbox", "searchbox", "combobox", "checkbox", "r
 MEASURE = """(() => { const all = [...document.querySelectorAll("body *")].filter((one) => one.checkVisibility && one.checkVisibility());
   const sizes = all.filter((one) => [...one.childNodes].some((it) => it.nodeType === 3 && it.data.trim())).map((one) => parseFloat(getComputedStyle(one).fontSize));
   return [innerWidth, document.documentElement.scrollWidth, Math.min(...sizes)]; })()"""
+# The brightness of the page's ground; how many elements show text, or a hint of what to write; and of those that differ too little from what
+# is behind them, by WCAG 2.2 (1.4.3), their text, colours and ratio.
+CONTRAST = """(() => {
+  const parts = (text) => (([r, g, b, a = 1]) => [r, g, b, a])(text.match(/[\\d.]+/g).map(Number));
+  const over = (top, below) => top.slice(0, 3).map((one, at) => one * top[3] + below[at] * (1 - top[3]));
+  const light = (rgb) => rgb.map((one) => (one / 255 <= 0.04045 ? one / 255 / 12.92 : ((one / 255 + 0.055) / 1.055) ** 2.4))
+    .reduce((sum, one, at) => sum + one * [0.2126, 0.7152, 0.0722][at], 0);
+  const behind = (one) => (one ? over(parts(getComputedStyle(one).backgroundColor), behind(one.parentElement)) : [255, 255, 255]);
+  const shown = [...document.querySelectorAll("body *")].filter((one) => one.checkVisibility({ opacityProperty: true, visibilityProperty: true }));
+  const texts = shown.flatMap((one) => {
+    const said = ((one.selectedOptions || [])[0] || {}).text || one.value || [...one.childNodes].filter((it) => it.nodeType === 3).map((it) => it.data).join("").trim();
+    return said ? [[one, said, ""]] : one.placeholder ? [[one, one.placeholder, "::placeholder"]] : [];
+  });
+  const faint = texts.flatMap(([one, said, part]) => {
+    const ground = behind(one), colour = over(parts(getComputedStyle(one, part).color), ground), [dark, bright] = [light(ground), light(colour)].sort((a, b) => a - b);
+    const ratio = (bright + 0.05) / (dark + 0.05);
+    return ratio < 4.5 ? [`${said.slice(0, 40)}: ${colour} on ${ground}, ${ratio.toFixed(2)}`] : [];
+  });
+  return [light(behind(document.body)), texts.length, faint];
+})()"""
 # The residents with a column more.
 KEPT = RESIDENTS.replace("\n", ",a@example.org\n").replace("Rank 3,a@example.org", "Rank 3,Email", 1)
 HOSTILE = ['<img src=x onerror="window.hit=1">', '"><script>window.hit=1</script>', "';window.hit=1;//", "{{7*7}}${7*7}", "<b>Kim</b> &amp; &lt;i&gt;", "javascript:window.hit=1",
@@ -127,8 +147,17 @@ class BrowserTest(OfficeTest):
         bare = [phrase for phrase in self.browser.spoken() if phrase.rstrip(": ") in CONTROLS]
         self.assertEqual(bare, [])
 
+    def readable(self, least: int = 40, is_dark_too: bool = True) -> None:
+        """In the light and in the dark, each of so many texts at least stands out from what is behind it."""
+        for scheme in ("dark", "light"):
+            self.browser.ask("Emulation.setEmulatedMedia", features=[{"name": "prefers-color-scheme", "value": scheme}])
+            ground, count, faint = self.browser.value(CONTRAST)
+            self.assertEqual((faint, ground < 0.2), ([], is_dark_too and scheme == "dark"), scheme)
+            self.assertGreaterEqual(count, least)
+
     def fits(self) -> None:
-        """At each width nothing is wider than the screen, and no letter is small."""
+        """At each width nothing is wider than the screen, no letter is small, and none is faint."""
+        self.readable()
         for width in (390, 820, 1280, 1600):
             self.browser.screen(width)
             inner, scrolled, smallest = self.browser.value(MEASURE)
@@ -174,6 +203,10 @@ class Walk(BrowserTest):
         self.wait_for("The desk is closed. You may close this window.")
         self.running.thread.join(SECONDS)
         self.assertFalse(self.running.thread.is_alive())
+        # What the desk showed of the match is on white paper in both.
+        for name in ("page.html", "letters.html", "rosters.html"):
+            self.browser.open(str(self.folder / "out" / name))
+            self.readable(is_dark_too=False)
 
     def counter(self) -> None:
         """The answer that docs/office.md shows."""
@@ -192,8 +225,10 @@ class Walk(BrowserTest):
         self.browser.type("zoë o'c")
         self.browser.wait("document.querySelectorAll('#gone-people:not([hidden]) [role=option]').length === 1", SECONDS)
         self.browser.press("ArrowDown", 40)
+        self.readable()
         self.browser.press("Enter", 13)
         self.seen("Withdraw Zoë O'Connor, and match again without this resident?")
+        self.readable()
         self.press_button("No")
         self.assertEqual([*self.running.desk.folders], ["match"])
         self.browser.value("(() => { const one = document.getElementById('gone'); one.focus(); one.dispatchEvent(new Event('input')); })()")

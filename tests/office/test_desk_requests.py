@@ -149,20 +149,17 @@ HOSTILE: Dict[str, Hostile] = {
 class Requests(OfficeTest):
     def setUp(self) -> None:
         super().setUp()
-        self.running = self.held(desks.running(self.folder))
-
-    def held(self, one: Any) -> Any:
-        """What is given up at the test's end."""
         stack = contextlib.ExitStack()
         self.addCleanup(stack.close)
-        return stack.enter_context(one)
+        self.running = stack.enter_context(desks.running(self.folder))
 
     def put(self, request: bytes) -> bytes:
         """A request with its marks filled in."""
         server = self.running.server
         return request.replace(b"PORT", str(server.port).encode()).replace(b"HOST", self.running.host.encode()).replace(b"TOKEN", server.token.encode())
 
-    def whole(self, status: int, text: str) -> bytes:
+    @staticmethod
+    def whole(status: int, text: str) -> bytes:
         """A refusal, byte for byte."""
         headers = {"Content-Type": "application/json", "Content-Security-Policy": POLICY, **HEADERS}
         lines = [f"HTTP/1.1 {status} {PHRASES[status]}", *(f"{name}: {value}" for name, value in headers.items()), "", ""]
@@ -261,14 +258,6 @@ class Requests(OfficeTest):
             other.call("state")
             self.assertEqual(threading.active_count(), before + 1 + servers.MOST_ANSWERED)
         self.assertEqual(threading.active_count(), before)
-
-    def test_another_desks_token_opens_nothing(self) -> None:
-        other = self.held(desks.running(self.folder))
-        other.give("residents", RESIDENTS.encode())
-        answer = other.ask("POST", "/call/state", b"{}", X_Desk_Token=self.running.server.token)
-        self.assertEqual((answer.status, answer.data), (401, json.dumps({"error": TOKEN}).encode() + b"\n"))
-        self.assertEqual(self.running.call("state")["tables"], {})
-        self.assertEqual(other.call("state")["tables"], {"residents": "residents.csv"})
 
     def test_a_ticket_is_for_once(self) -> None:
         out = self.run_tables()

@@ -4,16 +4,19 @@ import io
 import json
 import os
 import re
+import shutil
 import signal
 import stat
 import subprocess
+import tempfile
 import time
 import zipfile
 from pathlib import Path
-from typing import Any, Dict, List, Tuple
+from typing import Any, Dict, Iterator, List, Tuple
 from unittest import mock
 
 import desks
+import test_desk_requests
 from residency.office import seal, sentences
 from support import OFFICE, PROGRAMMES, RESIDENTS, OfficeTest, office
 
@@ -39,6 +42,16 @@ def files_of(path: Path) -> Files:
     """Each file below a folder: its mode and its bytes; and the modes of folders."""
     found = {file.relative_to(path).as_posix(): file for file in [path, *path.rglob("*")]}
     return {name: (stat.S_IMODE(file.lstat().st_mode), b"" if file.is_dir() else file.read_bytes()) for name, file in found.items()}
+
+
+@contextlib.contextmanager
+def another_user() -> Iterator[None]:
+    """Does what follows as nobody, which root alone may."""
+    with contextlib.ExitStack() as back:
+        for change, own, other in ((os.setgroups, os.getgroups(), []), (os.setegid, 0, 65534), (os.seteuid, 0, 65534)):
+            back.callback(change, own)
+            change(other)
+        yield
 
 
 class DeskTest(OfficeTest):
@@ -405,6 +418,41 @@ class Command(OfficeTest):
         self.assertEqual((room / "desk.html").read_text(), f'<!doctype html><meta http-equiv="refresh" content="0;url=http://{desk.host}/#{desk.server.token}">\n')
         desk.ask("POST", "/close")
         self.assertEqual(self.ended(process), (0, "the desk is closed\n", ""))
+
+    def test_another_user_of_the_machine_gets_nothing(self) -> None:
+        """No file, no word of the desk's process, and of its server the refusals alone; where the folder around is open to all."""
+        if os.geteuid():
+            self.skipTest("root alone can be another user")
+        around = Path(tempfile.mkdtemp(dir="/tmp"))
+        self.addCleanup(shutil.rmtree, around)
+        self.addCleanup(os.umask, os.umask(0))
+        around.chmod(0o777)
+        process, desk = self.start("--no-browser", TMPDIR=str(around))
+        for table, text in (("programmes", PROGRAMMES), ("residents", RESIDENTS)):
+            desk.give(table, text.replace("Omar", "Wolfhart").encode())
+        desk.call("check", settings={"match": {"sender": "Amalienbad"}})
+        desk.call("match", day=DAY)
+        room, own = next(path for path in around.iterdir() if path.is_dir()), Path(f"/proc/{process.pid}")
+        inside = [room, *room.rglob("*")]
+        self.assertIn(b"Wolfhart", b"".join(path.read_bytes() for path in inside if path.is_file()))
+        (around / "open").write_text("for all")
+        secrets = [word.encode() for word in (desk.server.token, "Wolfhart", "Amalienbad")]
+        with another_user():
+            self.assertEqual((room.name in os.listdir(around), (around / "open").read_text()), (True, "for all"))
+            for path in [*inside, *(own / name for name in ("environ", "mem", "maps", "fd", "cwd"))]:
+                with self.assertRaises(PermissionError, msg=path):
+                    os.open(path, os.O_RDONLY)
+            lines = {}
+            for path in [*(Path(at, name) for at, _, names in os.walk(around) for name in names), *own.iterdir(), *Path("/proc").glob("[0-9]*/cmdline")]:
+                with contextlib.suppress(OSError):
+                    lines[path] = path.read_bytes()
+            self.assertLessEqual({around / "open", own / "cmdline"}, {*lines})
+            self.assertEqual([path for path, line in lines.items() if any(secret in line for secret in secrets)], [])
+            for name, asked in test_desk_requests.HOSTILE.items():
+                if asked.status in (401, 403, 421):
+                    request = asked.request.replace(b"PORT", b"%d" % desk.server.port).replace(b"HOST", desk.host.encode()).replace(b"TOKEN", b"A" * 43)
+                    self.assertEqual(desk.raw(request), test_desk_requests.Requests.whole(asked.status, asked.text), name)
+        self.assertEqual([*desk.call("state")["tables"]], ["programmes", "residents"])
 
     def test_without_a_screen_the_address_is_told(self) -> None:
         bare = {name: value for name, value in os.environ.items() if name not in ("DISPLAY", "WAYLAND_DISPLAY", "BROWSER")}

@@ -15,6 +15,7 @@ from residency.office import sentences, sheets, steps
 from residency.office.settings import Settings
 from spoken import LANGUAGES, Spoken
 from support import PROGRAMMES, RESIDENTS, OfficeTest, office
+from test_tables import DOCKET
 
 Rows = List[List[str]]
 # The sets in which a table's text is found, and what they are called.
@@ -376,9 +377,9 @@ class Languages(OfficeTest):
         with no option at all; in another set the fault names this set."""
         if shutil.which("soffice") is None:
             self.skipTest("LibreOffice (soffice) is missing here")
-        whole = {words.language: self.rows(words, False) for words in LANGUAGES.values()}
-        wanted = steps.check(*map(given, whole["English"]), Settings()).market.docket()
-        named = [(f"{language}-{number}", rows) for language, tables in whole.items() for number, rows in enumerate(tables)]
+        whole = {(language, long): self.rows(words, long) for language, words in LANGUAGES.items() for long in (False, True)}
+        self.assertEqual(len(whole), 14)
+        named = [(f"{language}-{long}-{number}", rows) for (language, long), tables in whole.items() for number, rows in enumerate(tables)]
         made = {"csv": [Path(self.write(f"{name}.csv", given(rows).data)) for name, rows in named],
                 "xlsx": [Path(self.write(f"{name}.xlsx", sheets.book_of("Table", rows))) for name, rows in named]}
         reads = {"csv": ["--infilter=CSV:44,34,76"]}
@@ -388,18 +389,22 @@ class Languages(OfficeTest):
         forms = {"xlsx": "xlsx", "utf-8": text.format(44, 76), "cp1252": text.format(59, 1), "utf-16": text.format(9, 65535)}
         for kind, form in [(kind, form) for kind in made for form in forms if kind == "ods" or form in ("xlsx", "utf-8")]:
             files = {path.stem: path for path in self.saved(forms[form], made[kind], form, *reads.get(kind, []))}
-            for language, tables in whole.items():
-                read = steps.check(*(steps.Given("t", files[f"{language}-{number}"].read_bytes()) for number in (0, 1)), Settings())
-                self.assertEqual(sentences.report(read.faults), [], (language, kind, form))
-                self.assertEqual(read.market.docket(), wanted, (language, kind, form))
+            for (language, long), tables in whole.items():
+                # A long table of Polish or Turkish has letters that this set hasn't.
+                if form == "cp1252" and not all(encodes(rows, form) for rows in tables):
+                    self.assertTrue(long and language in ("Polish", "Turkish"))
+                    continue
+                read = steps.check(*(steps.Given("t", files[f"{language}-{long}-{number}"].read_bytes()) for number in (0, 1)), Settings())
+                self.assertEqual(sentences.report(read.faults), [], (language, long, kind, form))
+                self.assertEqual(([table.language for table in read.tables], read.market.docket().decode()), ([language] * 2, DOCKET), (long, kind, form))
         for language, number, title, *names in (("Polish", 33, "windows-1250", "Łukasz Wiśniewski", "Zofia Bąk", "Fatima Król"),
                                                 ("Turkish", 36, "windows-1254", "Işıl Şahingöz", "Zeynep Öztürk", "Fatma Doğan")):
             known = dict(zip(("Jürgen Groß", "Zoë Brontë", "Fatima Kovács"), names))
-            rows = [[known.get(text, text) for text in row] for row in whole[language][1]]
+            rows = [[known.get(text, text) for text in row] for row in whole[language, False][1]]
             self.write(f"{title}.csv", given(rows).data)
             (path,) = self.saved(text.format(59, number), [self.folder / f"{title}.csv"], title, *reads["csv"])
             self.assertIn(f"(--encoding residents=SET): {title} has ", " ".join(
-                sentences.report(steps.check(given(whole[language][0]), steps.Given("t", path.read_bytes()), Settings()).faults)))
+                sentences.report(steps.check(given(whole[language, False][0]), steps.Given("t", path.read_bytes()), Settings()).faults)))
 
     def test_names_in_two_columns(self) -> None:
         """Of each language, in either order; `Nom` beside `Prénom` and `Nombre` beside `Apellidos` are parts of a name."""
