@@ -8,7 +8,9 @@ import os
 import shutil
 from unittest import mock
 
-from residency.passes import NATIONAL, Most
+from residency.docket import read_docket
+from residency.market import Market
+from residency.passes import NATIONAL, STANDARD, Most
 from residency.program import find_program
 from support import PROGRAMMES, RESIDENTS, OfficeTest, office
 
@@ -23,8 +25,12 @@ def limits(standard: Most, national: Most = NATIONAL):
     with contextlib.ExitStack() as held:
         for module in ("market", "office.verify"):
             held.enter_context(mock.patch(f"residency.{module}.STANDARD", standard))
-        for module in ("market", "office.lists", "office.tables", "office.running", "office.remade", "office.verify"):
+        for module in ("market", "office.lists", "office.tables", "office.running", "office.remade", "office.tree", "office.verify"):
             held.enter_context(mock.patch(f"residency.{module}.NATIONAL", national))
+        # What names no limits has the standard ones.
+        for function in (read_docket, Market.__init__, Market.from_docket.__func__):
+            own = tuple(standard if value is STANDARD else value for value in function.__defaults__)
+            held.enter_context(mock.patch.object(function, "__defaults__", own))
         yield
 
 
