@@ -49,7 +49,7 @@ class Receipt:
     """What the rows of a file tell, whatever they are."""
 
     def __init__(self, data):
-        self.is_long = len(data) > 2000000
+        self.is_long = len(data) > 8000000
         self.text = (data[3:] if data[:3] == b"\xef\xbb\xbf" else data).replace(b"\r\n", b"\n").decode("latin-1")
         self.rows = [line.split(",") for line in self.text.split("\n")[:-1]]
         rest, cell = self.rest, self.cell

@@ -1,31 +1,36 @@
-"""Markets over a limit of residency: the command takes the programs of the national limits, and says at once what doesn't take them.
+"""Markets over a limit of residency: the command takes the programs of the national limits.
 
 The limits are made small here, and the programs of the national limits are those of the standard ones under the other names, so that
 what is asked for, and that it answers alike, is seen with a few members.
 """
 import contextlib
 import os
+import shutil
 from unittest import mock
 
-from residency.office import steps
-from residency.office.faults import OfficeError
-from residency.passes import NATIONAL, Most
+from residency.docket import read_docket
+from residency.market import Market
+from residency.passes import NATIONAL, STANDARD, Most
 from residency.program import find_program
 from support import PROGRAMMES, RESIDENTS, OfficeTest, office
 
 # The tables of the tests have four programmes and seven residents.
 SMALL = Most(4, 6, 100, 1000)
-NOTE = "note: over a limit of residency: residency-national matches this, seal and verify don't take it"
+NOTE = "note: over a limit of residency: residency-national matches this"
 
 
 @contextlib.contextmanager
 def limits(standard: Most, national: Most = NATIONAL):
     """The limits of the programs, as the office knows them."""
     with contextlib.ExitStack() as held:
-        for module in ("market", "office.settings", "office.verify"):
+        for module in ("market", "office.verify"):
             held.enter_context(mock.patch(f"residency.{module}.STANDARD", standard))
-        for module in ("market", "office.settings", "office.lists", "office.running"):
+        for module in ("market", "office.lists", "office.tables", "office.running", "office.remade", "office.tree", "office.verify"):
             held.enter_context(mock.patch(f"residency.{module}.NATIONAL", national))
+        # What names no limits has the standard ones.
+        for function in (read_docket, Market.__init__, Market.from_docket.__func__):
+            own = tuple(standard if value is STANDARD else value for value in function.__defaults__)
+            held.enter_context(mock.patch.object(function, "__defaults__", own))
         yield
 
 
@@ -65,28 +70,31 @@ class National(OfficeTest):
             self.assertEqual((said.status, "there is no program residency" in said.err), (1, True), said)
             self.assertNotIn(NOTE, office("check", *self.tables()).out)
 
-    def test_what_takes_no_such_market(self) -> None:
-        """Seal says so at the first row over its limit, and verify at once; neither leaves anything."""
-        out = self.run_tables()
-        more = RESIDENTS + ",South Hospital,,\n" * 3
-        for side, tables, most in (("residents", (PROGRAMMES, more), Most(4, 6, 100, 0)), ("programmes", (PROGRAMMES, RESIDENTS), Most(3, 7, 100, 0))):
+    def test_a_sealed_match_over_a_limit(self) -> None:
+        """Seal, the match of what was sealed, a copy for the auditor and verify need no standard program but seal, and hold."""
+        self.programs(("national", "residency"), ("why-national", "why"), ("seal", "seal"))
+        sealed, out, copy = (self.folder / name for name in ("sealed", "out", "copy"))
+        for most in (SMALL, Most(3, 7, 100, 1000), Most(4, 7, 3, 1000)):
             with limits(most):
-                said = office("seal", *self.tables(*tables), "--out", self.folder / "sealed")
-            limit, = {most.residents, most.programmes} - {7, 4}
-            self.assertEqual(said.status, 3)
-            self.assertEqual(said.err.splitlines()[-3:-2] + said.err.splitlines()[-2:-1], [
-                f"office: {side}, row {limit + 2}, cell 1 (A{limit + 2}): more than {limit} {side}, and no more are matched in a sealed match; without sealing, run takes more",
-                "office: 1 fault in the tables"], said)
-        with limits(Most(4, 7, 3, 0)):
-            said = office("seal", *self.tables(), "--out", self.folder / "sealed")
-            self.assertRegex(said.err, "programmes: [0-9]+ pairs rank one another, and no more than 3 are matched in a sealed match; without sealing, run takes more")
-            market = steps.check(*map(steps.Given, ("a", "b"), (PROGRAMMES.encode(), RESIDENTS.encode())), steps.Settings()).market
-            with self.assertRaisesRegex(OfficeError, "^seal.large$"):
-                steps.seal(str(self.folder / "sealed"), market, steps.Details(), steps.Wishes(), {})
-        with limits(SMALL):
+                for words, told in ((["seal", *self.tables(), "--out", sealed], "the folder is written"),
+                                    (["run", sealed, "--out", out], "residency-national matches, audits and replays")):
+                    said = office(*words)
+                    self.assertEqual((said.status, said.err.splitlines()[-1 if words[0] == "seal" else -2]), (0, f"office: {told}"), said)
+                    self.assertIn(f"office: {NOTE}", said.err.splitlines())
+                self.assertEqual(office("auditor", out, "--out", copy).status, 0)
+                for path in (sealed, out, copy):
+                    said = office("verify", path)
+                    self.assertEqual((said.status, said.err), (0, ""), said)
+                    self.assertEqual("reasons: the program says what the letters say" in said.out, path != sealed, said)
+            for path in (sealed, out, copy):
+                shutil.rmtree(path)
+
+    def test_verify_over_the_national_limits(self) -> None:
+        """The programs refuse a folder that is over the national limits, too."""
+        out = self.run_tables()
+        with limits(SMALL, Most(4, 6, 100, 1000)):
             said = office("verify", out)
-        self.assertEqual((said.status, said.err), (3, f"office: {out} is over a limit of verify: residency-national audits and replays it\n"))
-        self.assertEqual(self.left(), ["out"])
+        self.assertEqual((said.status, "docket and key: record 15: more than 6 residents" in said.out), (4, True), said)
 
     def test_over_the_national_limits(self) -> None:
         """No row below the first one over a limit is read."""

@@ -423,7 +423,7 @@ class Limits(Tables):
         self.assertNotIn("note: over a limit", said.out)
         said = office("check", *self.tables("\n".join(programmes), "\n".join([*residents, "R2000,P0" + "," * 99])))
         self.assertEqual((said.status, said.out.splitlines()[-1]), (0, "no fault"), said)
-        self.assertIn("note: over a limit of residency: residency-national matches this, seal and verify don't take it", said.out)
+        self.assertIn("note: over a limit of residency: residency-national matches this", said.out)
 
 
 class Headings(Tables):

@@ -501,7 +501,7 @@ def want_answer(told: Content, choice: int, row: int) -> None:
 
 def fault_of(receipt: bytes, roots: Dict[str, Tuple[int, str]]) -> Optional[Wrong]:
     """The first thing that is wrong with a receipt, or None."""
-    if len(receipt) > 2_000_000:
+    if len(receipt) > 8_000_000:
         return Wrong(1, "long")
     told = Content(plain(receipt), roots)
     try:

@@ -127,7 +127,7 @@ def not_compared(market: Market, places: Places) -> Iterator[Two]:
              "two residents, of whom the second is altered": (joseph, bent), "two altered residents": (bent, swapped(joseph, b"City,General", b"General,City")),
              "a resident of before the match": (lists_alone["Sunny"], city), "a programme of before the match": (sunny, lists_alone["City"]),
              "a resident of another secret": (theirs["Sunny"], city), "a programme of another secret": (sunny, theirs["City"]),
-             "nothing first": (b"", city), "nothing second": (sunny, b""), "a file that is too long": (sunny, city + b"a" * 2_000_000),
+             "nothing first": (b"", city), "nothing second": (sunny, b""), "a file that is too long": (sunny, city + b"a" * 8_000_000),
              "lines ended by CR and LF": (sunny.replace(b"\n", b"\r\n"), city), "a mark before it": (sunny, b"\xef\xbb\xbf" + city)}
     for what, receipts in given.items():
         yield Two(what, receipts, roots)

@@ -2,7 +2,7 @@
 use Rattle.std.specs.Prelude.{◌≡◌, ◌⊎◌, ℕ, ◌++◌, [], Bool, Option, Some, None, List, MatchOption, unwrap_or, ⊤}
 use Rattle.settle_law.specs.Stable.{IsSettled}
 use Rattle.match_audit.specs.Result.{IsUnlikeResult}
-use Rattle.match_model.specs.declared.limits.Limits.TheVariants.{Standard}
+use Rattle.match_model.specs.declared.limits.Limits.TheVariants.{National}
 use Rattle.docket.specs.Contents.{Contents}
 use Rattle.docket.specs.Parts.{IsInFiles, Tells as IsFaultOfFiles, fault_of_files}
 use Rattle.docket.specs.declared.file_fault.FileFault.{FileFault}
@@ -18,13 +18,13 @@ use Rattle.audit_files.specs.declared.serve.Verdict.TheVariants.{Good, Bad}
 
 -- the three files have no fault, and this is the docket of their records
 abbrev pub IsDocketIn : List ℕ → List ℕ → List ℕ → Contents → Type 0
-IsDocketIn docket sheet journal d = IsInFiles Standard docket sheet journal d
+IsDocketIn docket sheet journal d = IsInFiles National docket sheet journal d
 
 -- Why three files are no docket: the first fault of their records, with its file. Or memory ran out, or the
 -- machine had no random bytes.
 pub record IsReadingFault (docket sheet journal : List ℕ) (fault : FilesFault) : Type 0 where
   pub first : FileFault
-  pub is_first : IsFaultOfFiles (fault_of_files Standard docket sheet journal) first
+  pub is_first : IsFaultOfFiles (fault_of_files National docket sheet journal) first
   pub is_told : fault ≡ told first
 
 -- If the docket has a sheet: none if the sheet is the match's result, else the first resident for whom the sheet

@@ -3,14 +3,15 @@ ghost use Rattle.std.specs.Prelude.{◌≡◌};
 ghost use Rattle.audit_files.specs.Place as spec;
 
 use docket::{DocketFault, FileFault, Part, RecordsFault};
+use match_model::Limits;
 use thiserror::Error;
 
 /// Why an audit over files gave no answer.
 #[derive(Clone, Copy, Debug, PartialEq, Eq, Error)]
 pub enum FilesFault {
     /// The files are no docket, for this fault in this file. The fault has the record's number in the
-    /// file.
-    #[error("{fault}")]
+    /// file. The text names the national limits.
+    #[error("{}", .fault.within(Limits::National))]
     Docket { file: Part, fault: RecordsFault },
     /// The sheet's file has no record.
     #[error("no sheet")]

@@ -19,7 +19,7 @@ pub(crate) fn read_files<H: RandomSource>(
     ensures docket { IfOk result (IsDocketIn docket.now sheet.now journal.now) }
     ensures fault { IfErr result (IsReadingFault docket.now sheet.now journal.now) }
 {
-    match read_parts(rt, alloc, Limits::Standard, docket, sheet, journal) {
+    match read_parts(rt, alloc, Limits::National, docket, sheet, journal) {
         Ok(docket) => Ok(docket),
         Err(file_fault) => Err(told(file_fault)),
     }

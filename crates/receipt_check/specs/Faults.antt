@@ -258,7 +258,7 @@ text_fault lists_root result_root text =
 
 -- how many bytes a receipt has at most; the longest that a docket can have is shorter
 abbrev pub longest : ℕ
-longest = 2000000
+longest = 8000000
 
 -- the first thing that is wrong with a receipt
 abbrev pub receipt_fault : List ℕ → Option (List ℕ) → List ℕ → Option Fault

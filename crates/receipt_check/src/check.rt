@@ -23,7 +23,7 @@ use std::io::Write;
 use std::random::RandomSource;
 
 /// How many bytes a receipt has at most. The longest receipt that a docket can have is shorter.
-pub(crate) const LONGEST: usize = 2_000_000;
+pub(crate) const LONGEST: usize = 8_000_000;
 
 /// The content of the receipt with these rows and the names on its list, or the receipt's first fault.
 #[tactic(auto, unfolding(crate::specs::Faults::text_fault))]

@@ -188,9 +188,9 @@ module _ (c : CaseParts) (draft : Draft) (market : IsMarket c.docket draft) (sec
         on_list = members_right p;
       }) in
       good_receipt secret texts (Some results) p (full_programme p) at (omega (arith, n, l)) (few_texts d draft market secret real) (market.names.programmes p)
-      (clean_more 700277 705000 _ (omega arith) (programme_lists_clean d market.names (opened_at secret texts (Some results) p (their_named p)) p (quota d.instance p) (small_quota d draft market secret real p) (others p) (keyed.programmes p l).clean (slice_index_or draft.programme_lists p None)
+      (clean_more 3340277 3345000 _ (omega arith) (programme_lists_clean d market.names (opened_at secret texts (Some results) p (their_named p)) p (quota d.instance p) (small_quota d draft market secret real p) (others p) (keyed.programmes p l).clean (slice_index_or draft.programme_lists p None)
       (is_withdrawn d.instance.programmes_withdrawn p) (their_list_short d draft market secret real p)))
-      (λ given e. clean_more 1000133 1001000 _ (omega arith) (programme_result_clean d market.names (opened_at secret texts (Some results) p (their_named p)) p (quota d.instance p) (list_of_programme d draft p)
+      (λ given e. clean_more 1000133 2321000 _ (omega arith) (programme_result_clean d market.names (opened_at secret texts (Some results) p (their_named p)) p (quota d.instance p) (list_of_programme d draft p)
       (is_withdrawn d.instance.programmes_withdrawn p) (members_of m p) (small_quota d draft market secret real p) (let a = length-members_of m p in let b = few_members p in omega (arith, a, b))))
       (list_shown d draft market secret real (slice_index_or draft.programme_lists p None)) right
 
@@ -209,7 +209,7 @@ module _ (c : CaseParts) (draft : Draft) (market : IsMarket c.docket draft) (sec
     abbrev full_resident : Receipt
     full_resident = resident_content (opened_at secret texts (Some results) (ps + r) (my_named r)) (resident_name d r) (list_of_resident d draft r) gone (option_map (programme_name d) own) rows
 
-    their_few : (p : ℕ) → length (their p) ≤ 20000
+    their_few : (p : ℕ) → length (their p) ≤ 100000
     their_few p = let short = list_short rs (their p) (market.programme_lists p) in let few = market.few_residents in omega (arith, short, few)
 
     is_right : (k : ℕ) → k < length (my r) → IsRight gone (my r) own (get_or (my r) k 0) (get_or h.reasons k Matched)
@@ -265,8 +265,8 @@ module _ (c : CaseParts) (draft : Draft) (market : IsMarket c.docket draft) (sec
         (option_map (programme_name d) own) rows
         (opened_right secret texts (Some results) (ps + r) full_resident resident_at (omega (arith, n, l, few))) (market.residents.named r l) (my_list_right d draft market secret real r) (λ root e. (own_place (my r) own, right_resident)) in
         good_receipt secret texts (Some results) (ps + r) full_resident resident_at (omega (arith, n, l)) (few_texts d draft market secret real) (market.names.residents r)
-        (clean_more 106177 705000 _ (omega arith) (resident_lists_clean d market.names (opened_at secret texts (Some results) (ps + r) (my_named r)) r (my r) gone (option_map (programme_name d) own) rows (keyed.residents r l).clean (my_list_short d draft market secret real r)))
-        (λ given e. clean_more 464100 1001000 _ (omega arith) (resident_result_clean d market.names (opened_at secret texts (Some results) (ps + r) (my_named r)) m r (my r) h.reasons h.each gone own (my_list_short d draft market secret real r) (λ k w. (is_right k w).room)))
+        (clean_more 370177 3345000 _ (omega arith) (resident_lists_clean d market.names (opened_at secret texts (Some results) (ps + r) (my_named r)) r (my r) gone (option_map (programme_name d) own) rows (keyed.residents r l).clean (my_list_short d draft market secret real r)))
+        (λ given e. clean_more 2320100 2321000 _ (omega arith) (resident_result_clean d market.names (opened_at secret texts (Some results) (ps + r) (my_named r)) m r (my r) h.reasons h.each gone own (my_list_short d draft market secret real r) (λ k w. (is_right k w).room)))
         tt right
 
   pub resident_good : (r : ℕ) → r < rs → IsGoodReceipt (published secret Lists texts) (Some (published secret Outcome results)) (receipt_of secret (codes "R") (resident_name d r) texts (Some results) (ps + r))

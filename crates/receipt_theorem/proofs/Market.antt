@@ -15,7 +15,7 @@ use Rattle.match_model.proofs.Remaining.{length-remaining_lists}
 use Rattle.match_model.specs.Limits.{most_programmes, most_residents}
 use Rattle.match_model.specs.Ranking.{HasNoRepeats, is_listed, place}
 use Rattle.match_model.specs.Written.{AreWritten, Written, written_of}
-use Rattle.match_model.specs.declared.limits.Limits.TheVariants.{Standard}
+use Rattle.match_model.specs.declared.limits.Limits.TheVariants.{National}
 use Rattle.settle_law.proofs.Places.{HasNoRepeats-nil, HasNoRepeats-cons}
 use Rattle.records.specs.Reading.{Fields, field}
 use Rattle.docket_names.specs.Words.{is_name, is_name_byte}
@@ -45,15 +45,15 @@ use Rattle.receipt_theorem.proofs.Rows.{IsPlain, IsShortName}
 
 -- a record without a fault in the first pass has no fault of its own, and there is room for one
 -- record more
-own_none : (before : List Fields) (row : Fields) → reading_fault Standard before row ≡ None
-    → (row_fault (next_place before) (workers_in before) row ≡ None) × (nat_le (most_records Standard) (length before) ≡ false)
+own_none : (before : List Fields) (row : Fields) → reading_fault National before row ≡ None
+    → (row_fault (next_place before) (workers_in before) row ≡ None) × (nat_le (most_records National) (length before) ≡ false)
 unfolding reading_fault
-own_none before row none = by (nat_le (most_records Standard) (length before)) none
+own_none before row none = by (nat_le (most_records National) (length before)) none
   where
-    by : (b : Bool) → (if b then Some (TooManyRecords (next_place before)) else option_or (row_fault (next_place before) (workers_in before) row) (option_or (repeat_fault before row) (limit_fault Standard before row))) ≡ None
+    by : (b : Bool) → (if b then Some (TooManyRecords (next_place before)) else option_or (row_fault (next_place before) (workers_in before) row) (option_or (repeat_fault before row) (limit_fault National before row))) ≡ None
         → (row_fault (next_place before) (workers_in before) row ≡ None) × (b ≡ false)
     by true e = absurd (cc e)
-    by false e = ((both_none (row_fault (next_place before) (workers_in before) row) (option_or (repeat_fault before row) (limit_fault Standard before row)) e).0, refl)
+    by false e = ((both_none (row_fault (next_place before) (workers_in before) row) (option_or (repeat_fault before row) (limit_fault National before row)) e).0, refl)
 
 programme_named : (n : ℕ) (workers : Option ℕ) (row : Fields) → row_fault n workers row ≡ None → is_kind quota_letter row ≡ true → is_name (field row 1) ≡ true
 unfolding row_fault
@@ -73,20 +73,20 @@ resident_named n workers row none kind =
 all_named : (P : List Fields → List (List ℕ)) (kind : ℕ)
     → ((n : ℕ) (workers : Option ℕ) (row : Fields) → row_fault n workers row ≡ None → is_kind kind row ≡ true → is_name (field row 1) ≡ true)
     → ((before : List Fields) (row : Fields) → P (before ++ row ∷ []) ≡ (if is_kind kind row then P before ++ field row 1 ∷ [] else P before))
-    → P [] ≡ [] → (rows : List Fields) → first_from (reading_fault Standard) [] rows ≡ None → list_all is_name (P rows) ≡ true
-all_named P kind one next none rows sound = over_records (reading_fault Standard) (λ some. list_all is_name (P some) ≡ true) (rw none refl) more rows sound
+    → P [] ≡ [] → (rows : List Fields) → first_from (reading_fault National) [] rows ≡ None → list_all is_name (P rows) ≡ true
+all_named P kind one next none rows sound = over_records (reading_fault National) (λ some. list_all is_name (P some) ≡ true) (rw none refl) more rows sound
   where
-    more : (before : List Fields) (row : Fields) → reading_fault Standard before row ≡ None → list_all is_name (P before) ≡ true → list_all is_name (P (before ++ row ∷ [])) ≡ true
+    more : (before : List Fields) (row : Fields) → reading_fault National before row ≡ None → list_all is_name (P before) ≡ true → list_all is_name (P (before ++ row ∷ [])) ≡ true
     more before row e h = rw (next before row) (by (is_kind kind row) refl)
       where
         by : (b : Bool) → is_kind kind row ≡ b → list_all is_name (if b then P before ++ field row 1 ∷ [] else P before) ≡ true
         by true k = list_all-append is_name (P before) (field row 1 ∷ []) ∙ rw (h, one (next_place before) (workers_in before) row (own_none before row e).0 k) refl
         by false k = h
 
-few_rows : (rows : List Fields) → first_from (reading_fault Standard) [] rows ≡ None → length rows ≤ most_records Standard
-few_rows rows none = over_records (reading_fault Standard) (λ some. length some ≤ most_records Standard) (omega arith) more rows none
+few_rows : (rows : List Fields) → first_from (reading_fault National) [] rows ≡ None → length rows ≤ most_records National
+few_rows rows none = over_records (reading_fault National) (λ some. length some ≤ most_records National) (omega arith) more rows none
   where
-    more : (before : List Fields) (row : Fields) → reading_fault Standard before row ≡ None → length before ≤ most_records Standard → length (before ++ row ∷ []) ≤ most_records Standard
+    more : (before : List Fields) (row : Fields) → reading_fault National before row ≡ None → length before ≤ most_records National → length (before ++ row ∷ []) ≤ most_records National
     more before row e h = search (rules, (own_none before row e).1, length_push before row)
 
 -- in a list of different names, a search for the name at place i finds place i
@@ -164,8 +164,8 @@ pub record IsMarket (d : Contents) (draft : Draft) : Type 0 where
   pub resident_lists : (r : ℕ) → IsWrittenList (length d.instance.quotas) (list_at (given_lists draft.resident_lists) r)
   pub programme_numbers : (p : ℕ) → p < length d.instance.quotas → number_in d.programmes (programme_name d p) ≡ Some p
   pub one_list_each : length (given_lists draft.resident_lists) ≡ length d.instance.resident_lists
-  pub few_programmes : length d.instance.quotas ≤ 2000
-  pub few_residents : length d.instance.resident_lists ≤ 20000
+  pub few_programmes : length d.instance.quotas ≤ 10000
+  pub few_residents : length d.instance.resident_lists ≤ 100000
   pub few_places : (p : ℕ) → quota d.instance p ≤ 10000
 
 no_programmes : programmes_of [] ≡ []
@@ -176,14 +176,14 @@ no_residents : residents_of [] ≡ []
 unfolding residents_of
 no_residents = refl
 
-pub market : (rows : List Fields) → fault_in Standard rows ≡ None → IsMarket (contents_of rows) (draft_of rows)
+pub market : (rows : List Fields) → fault_in National rows ≡ None → IsMarket (contents_of rows) (draft_of rows)
 unfolding programme_name resident_name
 market rows none =
     let d = contents_of rows in
     let draft = draft_of rows in
-    let sound = rows_sound Standard rows none in
-    let first = sound_widest Standard rows sound.reading in
-    let few = few_widest Standard (length rows) (few_rows rows sound.reading) in
+    let sound = rows_sound National rows none in
+    let first = sound_widest National rows sound.reading in
+    let few = few_widest National (length rows) (few_rows rows sound.reading) in
     let ours : length (programmes_of rows) ≡ length (draft_of rows).quotas = sym (length-quotas_of rows) in
     let kept : length (instance_of (draft_of rows)).resident_lists ≡ length (draft_of rows).resident_lists =
     length-mutual_lists (resident_lists_left (draft_of rows)) (programme_lists_left (draft_of rows)) ∙ length-remaining_lists (given_lists (draft_of rows).resident_lists) (draft_of rows).residents_withdrawn
@@ -203,6 +203,6 @@ market rows none =
       programme_numbers = λ p l. number_there (programmes_of rows) p (distinct_programmes rows first few) (omega (arith, ours, l));
       one_list_each = length-given_lists (draft_of rows).resident_lists ∙ sym kept;
       few_programmes = sound.draft.programmes_within;
-      few_residents = subst (λ n. n ≤ 20000) (sym kept) sound.draft.residents_within;
+      few_residents = subst (λ n. n ≤ 100000) (sym kept) sound.draft.residents_within;
       few_places = λ p. sound.instance.quotas_within p;
     }

@@ -45,9 +45,9 @@ module _ (d : Contents) (names : HasPlainNames d) (o : Opened) where
     abbrev given : Option (List ℕ) → Bool → Receipt
     given list gone = programme_content o (programme_name d p) places (option_map (map (resident_name d)) list) gone others
 
-    list_clean : (xs : List ℕ) → length xs ≤ 20000 → IsClean 660067 (line (codes "P" ∷ programme_name d p ∷ map (resident_name d) xs))
+    list_clean : (xs : List ℕ) → length xs ≤ 100000 → IsClean 3300067 (line (codes "P" ∷ programme_name d p ∷ map (resident_name d) xs))
     list_clean xs few =
-        clean_more _ 660067 _ (let many = length-map xs (resident_name d) in omega (arith, many, few))
+        clean_more _ 3300067 _ (let many = length-map xs (resident_name d) in omega (arith, many, few))
         (clean_row (codes "P" ∷ programme_name d p ∷ map (resident_name d) xs) (record { plain = refl; short = omega arith }, (names.programmes p, short_names (resident_name d) names.residents xs)))
 
     gone_clean : IsClean 40110 (lines ((codes "W" ∷ codes "P" ∷ programme_name d p ∷ []) ∷ name_rows o.named))
@@ -55,17 +55,17 @@ module _ (d : Contents) (names : HasPlainNames d) (o : Opened) where
         clean_both 100 40010 (line (codes "W" ∷ codes "P" ∷ programme_name d p ∷ [])) _
         (clean_row (codes "W" ∷ codes "P" ∷ programme_name d p ∷ []) (record { plain = refl; short = omega arith }, (record { plain = refl; short = omega arith }, (names.programmes p, tt)))) told
 
-    rest_clean : (list : Option (List ℕ)) (gone : Bool) → ((xs : List ℕ) → list ≡ Some xs → length xs ≤ 20000) → IsClean 700177 (lines (list_rows (given list gone) ++ last_rows (given list gone)))
-    rest_clean None false few = clean_more 40010 700177 _ (omega arith) told
-    rest_clean None true few = clean_more 40110 700177 _ (omega arith) gone_clean
-    rest_clean (Some xs) false few = clean_more 700077 700177 _ (omega arith) (clean_both 660067 40010 _ _ (list_clean xs (few xs refl)) told)
-    rest_clean (Some xs) true few = clean_both 660067 40110 _ _ (list_clean xs (few xs refl)) gone_clean
+    rest_clean : (list : Option (List ℕ)) (gone : Bool) → ((xs : List ℕ) → list ≡ Some xs → length xs ≤ 100000) → IsClean 3340177 (lines (list_rows (given list gone) ++ last_rows (given list gone)))
+    rest_clean None false few = clean_more 40010 3340177 _ (omega arith) told
+    rest_clean None true few = clean_more 40110 3340177 _ (omega arith) gone_clean
+    rest_clean (Some xs) false few = clean_more 3340077 3340177 _ (omega arith) (clean_both 3300067 40010 _ _ (list_clean xs (few xs refl)) told)
+    rest_clean (Some xs) true few = clean_both 3300067 40110 _ _ (list_clean xs (few xs refl)) gone_clean
 
-    -- the text that is sealed of a programme before the match is clean and has at most 700277 bytes
-    pub programme_lists_clean : (list : Option (List ℕ)) (gone : Bool) → ((xs : List ℕ) → list ≡ Some xs → length xs ≤ 20000) → IsClean 700277 (lists_text (given list gone))
+    -- the text that is sealed of a programme before the match is clean and has at most 3340277 bytes
+    pub programme_lists_clean : (list : Option (List ℕ)) (gone : Bool) → ((xs : List ℕ) → list ≡ Some xs → length xs ≤ 100000) → IsClean 3340277 (lists_text (given list gone))
     unfolding lists_text
     programme_lists_clean list gone few =
-        clean_both 100 700177 (line (codes "Q" ∷ programme_name d p ∷ decimal places ∷ [])) _
+        clean_both 100 3340177 (line (codes "Q" ∷ programme_name d p ∷ decimal places ∷ [])) _
         (clean_row (codes "Q" ∷ programme_name d p ∷ decimal places ∷ []) (record { plain = refl; short = omega arith }, (names.programmes p, (short_number places small, tt))))
         (rest_clean list gone few)
 
@@ -87,13 +87,13 @@ module _ (d : Contents) (names : HasPlainNames d) (o : Opened) where
       clean_both 133 1000000 _ _ first
       (rw (members_kept (programme_name d p) (map (resident_name d) xs)) (clean_more _ 1000000 _ (omega (arith, count, few)) rows))
 
-  -- the text that is sealed of a resident before the match is clean and has at most 106177 bytes
-  pub resident_lists_clean : (r : ℕ) (xs : List ℕ) (gone : Bool) (own : Option (List ℕ)) (after : List Cells) → IsClean 40010 (lines (name_rows o.named)) → length xs ≤ 2000
-      → IsClean 106177 (lists_text (resident_content o (resident_name d r) (map (programme_name d) xs) gone own after))
+  -- the text that is sealed of a resident before the match is clean and has at most 370177 bytes
+  pub resident_lists_clean : (r : ℕ) (xs : List ℕ) (gone : Bool) (own : Option (List ℕ)) (after : List Cells) → IsClean 40010 (lines (name_rows o.named)) → length xs ≤ 10000
+      → IsClean 370177 (lists_text (resident_content o (resident_name d r) (map (programme_name d) xs) gone own after))
   unfolding lists_text
   resident_lists_clean r xs gone own after told few =
-      clean_both 66067 40110 (line (codes "R" ∷ resident_name d r ∷ map (programme_name d) xs)) _
-      (clean_more _ 66067 _ (let many = length-map xs (programme_name d) in omega (arith, many, few))
+      clean_both 330067 40110 (line (codes "R" ∷ resident_name d r ∷ map (programme_name d) xs)) _
+      (clean_more _ 330067 _ (let many = length-map xs (programme_name d) in omega (arith, many, few))
       (clean_row (codes "R" ∷ resident_name d r ∷ map (programme_name d) xs) (record { plain = refl; short = omega arith }, (names.residents r, short_names (programme_name d) names.programmes xs))))
       (rest gone)
     where
@@ -103,15 +103,15 @@ module _ (d : Contents) (names : HasPlainNames d) (o : Opened) where
           clean_both 100 40010 (line (codes "W" ∷ codes "R" ∷ resident_name d r ∷ [])) _
           (clean_row (codes "W" ∷ codes "R" ∷ resident_name d r ∷ []) (record { plain = refl; short = omega arith }, (record { plain = refl; short = omega arith }, (names.residents r, tt)))) told
 
-  -- the text that is sealed of a resident after the match is clean and has at most 464100 bytes
-  pub resident_result_clean : (m : List (Option ℕ)) (r : ℕ) (listed : List ℕ) (reasons : List Why) (each : length reasons ≡ length listed) (gone : Bool) (own : Option ℕ) → length listed ≤ 2000
+  -- the text that is sealed of a resident after the match is clean and has at most 2320100 bytes
+  pub resident_result_clean : (m : List (Option ℕ)) (r : ℕ) (listed : List ℕ) (reasons : List Why) (each : length reasons ≡ length listed) (gone : Bool) (own : Option ℕ) → length listed ≤ 10000
       → ((k : ℕ) → k < length listed → HasRoom (get_or reasons k Matched))
-      → IsClean 464100 (result_text (resident_content o (resident_name d r) (map (programme_name d) listed) gone (option_map (programme_name d) own) (told_rows d m names r listed reasons)))
+      → IsClean 2320100 (result_text (resident_content o (resident_name d r) (map (programme_name d) listed) gone (option_map (programme_name d) own) (told_rows d m names r listed reasons)))
   unfolding result_text
   resident_result_clean m r listed reasons each gone own few room =
-      clean_both 100 464000 _ _ (placed own)
-      (subst (λ (rows : List Cells). IsClean 464000 (lines rows)) (rows_same d m names r listed reasons each o gone (option_map (programme_name d) own))
-      (clean_more _ 464000 _ (let size = length-map (both d m names r listed reasons each) (told_row d m names r) in let n = many d m names r listed reasons each in omega (arith, size, n, few))
+      clean_both 100 2320000 _ _ (placed own)
+      (subst (λ (rows : List Cells). IsClean 2320000 (lines rows)) (rows_same d m names r listed reasons each o gone (option_map (programme_name d) own))
+      (clean_more _ 2320000 _ (let size = length-map (both d m names r listed reasons each) (told_row d m names r) in let n = many d m names r listed reasons each in omega (arith, size, n, few))
       (clean_rows 232 (told_rows d m names r listed reasons)
       (All-map (λ row. IsClean 232 (line row)) (told_row d m names r) (both d m names r listed reasons each)
       (All-weaker (Fits d m names) (λ told. IsClean 232 (line (told_row d m names r told))) one (both d m names r listed reasons each) (all_fit d m names r listed reasons each (omega (arith, few)) room))))))

@@ -62,7 +62,7 @@ module _ (inst : Instance) (written : Written) (m : List (Option ℕ)) (is : IsI
     listed = λ s l. (listed s p (member_from_listed m p s l)).1;
   }
 
-  places : (r p rank : ℕ) (last : Option ℕ) (quota : ℕ) → length (theirs p) ≤ 20000 → IsFirst inst (mine r) (theirs p) m r p (Full rank last quota) → IsListed (mine r) p → HasPlaces rank last quota
+  places : (r p rank : ℕ) (last : Option ℕ) (quota : ℕ) → length (theirs p) ≤ 100000 → IsFirst inst (mine r) (theirs p) m r p (Full rank last quota) → IsListed (mine r) p → HasPlaces rank last quota
   places r p rank None quota few first l =
       let told = full_told inst written m (λ p. members_of m p) why is made stable are r p rank None quota first.holds in
       let at = ranked (theirs p) r rank (sym first.holds.ranked) in
@@ -77,7 +77,7 @@ module _ (inst : Instance) (written : Written) (m : List (Option ℕ)) (is : IsI
       let f = full.all_filled in
       ((let a : place (members_of m p) full.last_is.0.0 < length (members_of m p) = there in omega (arith, a, q, f)), enough, told, (let a = at.0 in let b = at.1 in omega (arith, a, b, few)))
 
-  has_room : (r p : ℕ) (w : Why) → length (theirs p) ≤ 20000 → IsFirst inst (mine r) (theirs p) m r p w → IsListed (mine r) p → HasRoom w
+  has_room : (r p : ℕ) (w : Why) → length (theirs p) ≤ 100000 → IsFirst inst (mine r) (theirs p) m r p w → IsListed (mine r) p → HasRoom w
   has_room r p Withdrawn few first l = tt
   has_room r p NotListed few first l = tt
   has_room r p NotRanked few first l = tt
@@ -87,7 +87,7 @@ module _ (inst : Instance) (written : Written) (m : List (Option ℕ)) (is : IsI
   has_room r p Blocking few first l = tt
 
   -- the first true reason for a choice is right for a receipt
-  pub right : (r p : ℕ) (w : Why) → length (theirs p) ≤ 20000 → IsFirst inst (mine r) (theirs p) m r p w → IsListed (mine r) p
+  pub right : (r p : ℕ) (w : Why) → length (theirs p) ≤ 100000 → IsFirst inst (mine r) (theirs p) m r p w → IsListed (mine r) p
       → IsRight (is_withdrawn inst.residents_withdrawn r) (mine r) (programme_of m r) p w
   right r p w few first l = record {
     withdrawn = λ e. gone inst written m (λ p. members_of m p) why is made stable are r p w first (inl e);

@@ -76,7 +76,7 @@ module _ (d : Contents) (draft : Draft) (market : IsMarket d draft) (secret : Li
       length-append (map (programme_lists d draft real) (range_with_len 0 programmes)) (map (resident_lists d draft real) (range_with_len 0 residents))
       ∙ (let a = length-map-range_with_len (programme_lists d draft real) 0 programmes in let b = length-map-range_with_len (resident_lists d draft real) 0 residents in omega (arith, a, b))
 
-  pub few_texts : length lists ≤ 22000
+  pub few_texts : length lists ≤ 110000
   few_texts = let a = market.few_programmes in let b = market.few_residents in let n = all_texts in omega (arith, a, b, n)
 
   pub programme_there : (p : ℕ) → p < programmes → slice_get lists p ≡ Some (programme_lists d draft real p)
@@ -114,7 +114,7 @@ module _ (d : Contents) (draft : Draft) (market : IsMarket d draft) (secret : Li
   pub my_list_right : (r : ℕ) → wrong_name None (list_of_resident d draft r) ≡ None
   my_list_right r = names_right programmes (programme_name d) market.programmes None (mine r) (market.resident_lists r).below (market.resident_lists r).different (λ x l. refl)
 
-  pub their_list_short : (p : ℕ) (xs : List ℕ) → slice_index_or draft.programme_lists p None ≡ Some xs → length xs ≤ 20000
+  pub their_list_short : (p : ℕ) (xs : List ℕ) → slice_index_or draft.programme_lists p None ≡ Some xs → length xs ≤ 100000
   their_list_short p xs e =
       let same : theirs p ≡ xs = given_at draft.programme_lists p ∙ ap (λ (o : Option (List ℕ)). unwrap_or o []) e in
       let short = list_short residents (theirs p) (market.programme_lists p) in
@@ -122,7 +122,7 @@ module _ (d : Contents) (draft : Draft) (market : IsMarket d draft) (secret : Li
       let size : length (theirs p) ≡ length xs = ap length same in
       omega (arith, short, few, size)
 
-  pub my_list_short : (r : ℕ) → length (mine r) ≤ 2000
+  pub my_list_short : (r : ℕ) → length (mine r) ≤ 10000
   my_list_short r = let short = list_short programmes (mine r) (market.resident_lists r) in let few = market.few_programmes in omega (arith, short, few)
 
   pub list_shown : (list : Option (List ℕ)) → ListIsShown Programme (is_some (option_map (map (resident_name d)) list)) (unwrap_or (option_map (map (resident_name d)) list) [])
@@ -180,7 +180,7 @@ module _ (d : Contents) (draft : Draft) (market : IsMarket d draft) (secret : Li
         (opened_right secret lists None p (early_programme p) at (omega (arith, n, l, few)))
         (record { named = market.programmes.named p l; places = small_quota p; listed = their_list_right p; fits = omega arith; nobody = λ e. refl; on_list = nobody_on (unwrap_or (list_of_programme d draft p) []) }) in
         good_receipt secret lists None p (early_programme p) at (omega (arith, n, l)) few_texts (market.names.programmes p)
-        (clean_more 700277 705000 _ (omega arith) (programme_lists_clean d market.names (opened_at secret lists None p (their_row p)) p (quota d.instance p) (small_quota p) [] (keyed.programmes p l).clean (slice_index_or draft.programme_lists p None) (is_withdrawn d.instance.programmes_withdrawn p) (their_list_short p)))
+        (clean_more 3340277 3345000 _ (omega arith) (programme_lists_clean d market.names (opened_at secret lists None p (their_row p)) p (quota d.instance p) (small_quota p) [] (keyed.programmes p l).clean (slice_index_or draft.programme_lists p None) (is_withdrawn d.instance.programmes_withdrawn p) (their_list_short p)))
         (λ texts e. cc e)
         (list_shown (slice_index_or draft.programme_lists p None)) right
 
@@ -192,5 +192,5 @@ module _ (d : Contents) (draft : Draft) (market : IsMarket d draft) (secret : Li
         let right = resident_right (published secret Lists lists) None (opened_at secret lists None (programmes + r) (my_row r)) (resident_name d r) (list_of_resident d draft r) (is_withdrawn d.instance.residents_withdrawn r) None []
         (opened_right secret lists None (programmes + r) (early_resident r) at (omega (arith, n, l, few))) (market.residents.named r l) (my_list_right r) (λ root e. cc e) in
         good_receipt secret lists None (programmes + r) (early_resident r) at (omega (arith, n, l)) few_texts (market.names.residents r)
-        (clean_more 106177 705000 _ (omega arith) (resident_lists_clean d market.names (opened_at secret lists None (programmes + r) (my_row r)) r (mine r) (is_withdrawn d.instance.residents_withdrawn r) None [] (keyed.residents r l).clean (my_list_short r)))
+        (clean_more 370177 3345000 _ (omega arith) (resident_lists_clean d market.names (opened_at secret lists None (programmes + r) (my_row r)) r (mine r) (is_withdrawn d.instance.residents_withdrawn r) None [] (keyed.residents r l).clean (my_list_short r)))
         (λ texts e. cc e) tt right

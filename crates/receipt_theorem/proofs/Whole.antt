@@ -24,16 +24,16 @@ use Rattle.receipt_theorem.proofs.Openings.{IsDigest, hash_digest, opening_field
 use Rattle.receipt_theorem.proofs.Rows.{ArePlain, IsPlain, IsShortName}
 use Rattle.receipt_theorem.proofs.Sizes.{AreShort, path_short}
 
--- the rows of a tree's part in a receipt are clean and have at most 1432 bytes
+-- the rows of a tree's part in a receipt are clean and have at most 1562 bytes
 part_clean : (word : List ℕ) (root : List ℕ) (count index : ℕ) (salt : List ℕ) (path : List (List ℕ)) → IsShortName word → IsDigest root → count < 1000000000 → index < 1000000000
-    → IsDigest salt → All IsDigest path → length path ≤ 15 → IsClean 1432 (lines (part_rows word root (decimal count) (decimal index) (opening_fields salt path)))
+    → IsDigest salt → All IsDigest path → length path ≤ 17 → IsClean 1562 (lines (part_rows word root (decimal count) (decimal index) (opening_fields salt path)))
 part_clean word root count index salt path w r c i s p few =
-    clean_both 196 1236 _ _
+    clean_both 196 1366 _ _
     (clean_line 64 (word ∷ decimal count ∷ encode_lower root ∷ []) (w.plain, ((short_number count c).plain, (hex_plain root r, tt)))
     (All-cons (λ f. length f ≤ 64) word (decimal count ∷ map encode_lower (root ∷ [])) (let x = w.short in omega (arith, x))
     (All-cons (λ f. length f ≤ 64) (decimal count) (map encode_lower (root ∷ [])) (let x = (short_number count c).short in omega (arith, x)) (hex_short (root ∷ []) (All-cons IsDigest root [] r (All-nil IsDigest))))))
-    (clean_both 1236 0 _ []
-    (clean_more _ 1236 _ (let size = length-map path encode_lower in omega (arith, size, few))
+    (clean_both 1366 0 _ []
+    (clean_more _ 1366 _ (let size = length-map path encode_lower in omega (arith, size, few))
     (clean_line 64 (codes "opens" ∷ word ∷ decimal index ∷ opening_fields salt path)
     (refl, (w.plain, ((short_number index i).plain, digests_plain (salt ∷ path) (All-cons IsDigest salt path s p))))
     (All-cons (λ f. length f ≤ 64) (codes "opens") (word ∷ decimal index ∷ opening_fields salt path) (omega arith)
@@ -42,33 +42,33 @@ part_clean word root count index salt path w r c i s p few =
     (hex_short (salt ∷ path) (All-cons IsDigest salt path s p)))))))
     clean_none)
 
-module _ (secret : List ℕ) (lists : List (List ℕ)) (results : Option (List (List ℕ))) (i : ℕ) (c : Receipt) (at : IsAt secret lists results i c) (here : i < length lists) (few : length lists ≤ 22000) where
+module _ (secret : List ℕ) (lists : List (List ℕ)) (results : Option (List (List ℕ))) (i : ℕ) (c : Receipt) (at : IsAt secret lists results i c) (here : i < length lists) (few : length lists ≤ 110000) where
   tree_clean : (section : Section) (texts : List (List ℕ)) (word : List ℕ) (fields : Cells) → IsShortName word → length texts ≡ length lists
       → fields ≡ opening_fields (salt_of secret section i) (path_of i (hashes_of secret section texts))
-      → IsClean 1432 (lines (part_rows word (published secret section texts) c.count c.index fields))
+      → IsClean 1562 (lines (part_rows word (published secret section texts) c.count c.index fields))
   tree_clean section texts word fields w each opening =
       let size = length-hashes_of secret section texts in
       let made = part_clean word (published secret section texts) (length lists) i (salt_of secret section i) (path_of i (hashes_of secret section texts)) w (hash_digest _) at.few (omega (arith, here, few)) (hash_digest _)
       (path_digests (length (hashes_of secret section texts)) i (hashes_of secret section texts) (digests secret section texts))
-      (path_short (length (hashes_of secret section texts)) 15 i (hashes_of secret section texts) (omega (arith, size, each, here)) (omega (arith, size, each, few))) in
-      subst (λ (n : List ℕ). IsClean 1432 (lines (part_rows word (published secret section texts) n c.index fields))) (sym at.count_is)
-      (subst (λ (n : List ℕ). IsClean 1432 (lines (part_rows word (published secret section texts) (decimal (length lists)) n fields))) (sym at.index_is)
-      (subst (λ (f : Cells). IsClean 1432 (lines (part_rows word (published secret section texts) (decimal (length lists)) (decimal i) f))) (sym opening) made))
+      (path_short (length (hashes_of secret section texts)) 17 i (hashes_of secret section texts) (omega (arith, size, each, here)) (omega (arith, size, each, few))) in
+      subst (λ (n : List ℕ). IsClean 1562 (lines (part_rows word (published secret section texts) n c.index fields))) (sym at.count_is)
+      (subst (λ (n : List ℕ). IsClean 1562 (lines (part_rows word (published secret section texts) (decimal (length lists)) n fields))) (sym at.index_is)
+      (subst (λ (f : Cells). IsClean 1562 (lines (part_rows word (published secret section texts) (decimal (length lists)) (decimal i) f))) (sym opening) made))
 
-  module _ (name : IsShortName c.name) (before : IsClean 705000 (lists_text c)) (after : (texts : List (List ℕ)) → results ≡ Some texts → IsClean 1001000 (result_text c)) where
-    result_clean : (o : Option (List (List ℕ))) → results ≡ o → IsClean 1002432 (result_part (option_map (published secret Outcome) o) c)
-    result_clean None e = clean_more 0 1002432 [] (omega arith) clean_none
+  module _ (name : IsShortName c.name) (before : IsClean 3345000 (lists_text c)) (after : (texts : List (List ℕ)) → results ≡ Some texts → IsClean 2321000 (result_text c)) where
+    result_clean : (o : Option (List (List ℕ))) → results ≡ o → IsClean 2322562 (result_part (option_map (published secret Outcome) o) c)
+    result_clean None e = clean_more 0 2322562 [] (omega arith) clean_none
     result_clean (Some texts) e =
-        clean_both 1432 1001000 _ _ (tree_clean Outcome texts (codes "result") c.second (record { plain = refl; short = omega arith }) (at.each texts e) (at.second_is ∙ ap (λ (o : Option (List (List ℕ))). second_at secret o i) e)) (after texts e)
+        clean_both 1562 2321000 _ _ (tree_clean Outcome texts (codes "result") c.second (record { plain = refl; short = omega arith }) (at.each texts e) (at.second_is ∙ ap (λ (o : Option (List (List ℕ))). second_at secret o i) e)) (after texts e)
 
-    whole_clean : IsClean 1708997 (receipt_text (published secret Lists lists) (option_map (published secret Outcome) results) c)
+    whole_clean : IsClean 5669257 (receipt_text (published secret Lists lists) (option_map (published secret Outcome) results) c)
     unfolding receipt_text
     whole_clean =
-        clean_both 1565 1707432 _ _
-        (clean_both 133 1432 (line (first_row c)) _
+        clean_both 1695 5667562 _ _
+        (clean_both 133 1562 (line (first_row c)) _
         (clean_row (first_row c) (record { plain = refl; short = omega arith }, (record { plain = refl; short = omega arith }, (letter_short c.kind, (name, tt)))))
         (tree_clean Lists lists (codes "lists") c.opening (record { plain = refl; short = omega arith }) refl at.opening_is))
-        (clean_both 705000 1002432 _ _ before (result_clean results refl))
+        (clean_both 3345000 2322562 _ _ before (result_clean results refl))
       where
         letter_short : (kind : Kind) → IsShortName (letter_of kind)
         letter_short Programme = record { plain = refl; short = omega arith }

@@ -7,7 +7,7 @@ use Rattle.docket.specs.declared.part.Part.TheVariants as part
 use Rattle.docket.specs.declared.fault.DocketFault.TheVariants as docket
 use Rattle.docket.specs.declared.records_fault.RecordsFault.TheVariants as records
 use Rattle.match_model.specs.Written.{Written}
-use Rattle.match_model.specs.declared.limits.Limits.TheVariants.{Standard}
+use Rattle.match_model.specs.declared.limits.Limits.TheVariants.{National}
 use Rattle.audit_files.specs.Answer.{IsDocketIn, IsReadingFault}
 use Rattle.audit_files.specs.declared.fault.FilesFault.TheVariants as files
 use Rattle.reasons_text.specs.Answers.{CaseParts}
@@ -19,7 +19,7 @@ use Rattle.seal_text.specs.declared.serve.Wanted.{Wanted}
 
 -- if a docket was read from the files with its lists, the case made of both is the case in these
 -- files
-pub case_read : (d s : List ℕ) (contents : Contents) (written : Written) (c : CaseParts) → IsInFilesWithLists Standard d s [] contents written
+pub case_read : (d s : List ℕ) (contents : Contents) (written : Written) (c : CaseParts) → IsInFilesWithLists National d s [] contents written
     → c.docket ≡ contents → c.written ≡ written → c.docket.sheet ≡ Some c.sheet → IsCaseIn d s c
 case_read d s contents written c h same lists has = record { read = rw (same, lists) h; has_sheet = has }
 

@@ -1,7 +1,7 @@
 -- What the program writes about a docket, a sheet and a secret.
 use Rattle.std.specs.Prelude.{◌≡◌, ◌⊎◌, ℕ, Bool, true, false, Option, Some, None, Ok, Err, List, [], IsSomeAnd, unwrap_or}
 use Rattle.match_model.specs.Draft.{Draft}
-use Rattle.match_model.specs.declared.limits.Limits.TheVariants.{Standard}
+use Rattle.match_model.specs.declared.limits.Limits.TheVariants.{National}
 use Rattle.settle_law.specs.Stable.{IsStable}
 use Rattle.docket.specs.Contents.{draft_of}
 use Rattle.docket.specs.Parts.{rows_of_all}
@@ -23,7 +23,7 @@ use Rattle.seal_text.specs.declared.serve.Wanted.TheVariants.{Roots, Receipts}
 
 -- the docket and the sheet that two files give, each file read as its own part, with the lists as they were written
 abbrev pub IsCaseIn : List ℕ → List ℕ → CaseParts → Type 0
-IsCaseIn docket sheet c = IsCaseInFiles Standard docket sheet c
+IsCaseIn docket sheet c = IsCaseInFiles National docket sheet c
 
 -- the quotas, lists and withdrawals in the records of a docket's and a sheet's file, as a builder's input
 abbrev pub draft_in : List ℕ → List ℕ → Draft

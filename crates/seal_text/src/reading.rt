@@ -20,12 +20,12 @@ pub(crate) fn read_lists<H: RandomSource>(
     sheet: &[u8],
 ) -> Result<(Docket, WrittenLists, ProgrammeLists), FilesFault>
     ensures read { IfOk result (λ read.
-        IsInFilesWithLists Limits.Standard docket.now sheet.now [] read.0 read.1) }
+        IsInFilesWithLists Limits.National docket.now sheet.now [] read.0 read.1) }
     ensures given { IfOk result (λ read.
         AreGiven (rows_of_all docket.now sheet.now []) read.0 read.2) }
     ensures fault { IfErr result (IsReadingFault docket.now sheet.now []) }
 {
-    match read_parts_with_lists(rt, alloc, Limits::Standard, docket, sheet, &[]) {
+    match read_parts_with_lists(rt, alloc, Limits::National, docket, sheet, &[]) {
         Ok(read) => Ok(read),
         Err(file_fault) => Err(told(file_fault)),
     }

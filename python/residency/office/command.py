@@ -377,20 +377,30 @@ def how_read(tables: Sequence[Table], chosen: Settings) -> Dict[str, object]:
 def seal_command(given: argparse.Namespace) -> int:
     writing.refuse(given.out)
     chosen = settings_of(given, given.programmes)
-    chosen.is_sealed = True
     language_of(chosen)
     tables, market = tables_of(given, chosen)
-    roots = written_seal(given, chosen, tables, market, given.out)
-    for line in [*describe(tables, market), sealed(given.out, roots), *published(roots)]:
+    lines = describe(tables, market)
+    roots = written_seal(given, chosen, tables, market, given.out, begun(market, lines))
+    for line in [*lines, sealed(given.out, roots), *published(roots)]:
         say(line)
     return 0
 
 
-def written_seal(given: argparse.Namespace, chosen: Settings, tables: Sequence[Table], market: Market, out: str) -> Roots:
+def begun(market: Market, lines: Sequence[str]) -> Progress:
+    """What takes minutes says so before it begins, and how far it is."""
+    if not market.is_national:
+        return steps.quietly
+    for line in lines:
+        complain(line)
+    return lambda step: complain(national.STEPS[step])
+
+
+def written_seal(given: argparse.Namespace, chosen: Settings, tables: Sequence[Table], market: Market, out: str,
+                 progress: Progress = steps.quietly) -> Roots:
     """Seals two tables into a new folder."""
     language = language_of(chosen)
     wishes = Wishes(chosen.title or language.phrases().say("title"), given.date or date.today(), timeout=given.timeout, language=language)
-    return steps.seal(out, market, steps.details_of(tables[1], market), wishes, how_read(tables, chosen))
+    return steps.seal(out, market, steps.details_of(tables[1], market), wishes, how_read(tables, chosen), progress)
 
 
 def run(given: argparse.Namespace) -> int:
@@ -409,11 +419,7 @@ def run(given: argparse.Namespace) -> int:
     wishes = wishes_of(given, chosen, chosen.title, chosen.kept(), before=before)
     tables, market = tables_of(given, chosen, before)
     lines = describe(tables, market)
-    # What takes minutes says so before it begins, and how far it is.
-    for line in lines if market.is_national else ():
-        complain(line)
-    progress = (lambda step: complain(national.STEPS[step])) if market.is_national else steps.quietly
-    result = written_match(wishes, chosen, tables, market, before, given.out, progress)
+    result = written_match(wishes, chosen, tables, market, before, given.out, begun(market, lines))
     for line in lines + told(given.out, result, wishes):
         say(line)
     return 0
@@ -445,7 +451,7 @@ def run_sealed(given: argparse.Namespace, sealed: running.Kept, before: Optional
         lines, details = describe(tables, market), steps.details_of(tables[1], market)
         manifest = from_of(sealed, settings.values_of(chosen))
     wishes = wishes_of(given, chosen, chosen.title or sealed.title(), details.columns, sealed.language(), before)
-    result, roots = written_sealed(wishes, sealed, details, manifest, before, given.out)
+    result, roots = written_sealed(wishes, sealed, details, manifest, before, given.out, begun(sealed.market, lines or [national.NOTE]))
     for line in lines + told(given.out, result, wishes) + published(roots):
         say(line)
     return 0

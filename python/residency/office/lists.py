@@ -250,8 +250,8 @@ def market_of(programmes: Table, residents: Table, faults: Faults, options: Sett
         note_shared(table)
     wanted = [set(listed) for listed in resident_lists]
     pairs = sum(programme in wanted[resident] for programme, listed in enumerate(programme_lists) for resident in listed)
-    if pairs > options.most().pairs:
-        faults.tell("limit.pairs", programmes.name, None, None, {"pairs": pairs, "most": options.most().pairs, "sealed": options.is_sealed})
+    if pairs > NATIONAL.pairs:
+        faults.tell("limit.pairs", programmes.name, None, None, {"pairs": pairs, "most": NATIONAL.pairs})
     if len(faults):
         return None
     names = Names([Member(PROGRAMME, made, entry.name, entry.id)

@@ -9,7 +9,7 @@ OVER = "more than "
 # What is said as soon as a step of such a match begins.
 STEPS = {"match": f"{PROGRAM} matches, audits and replays", "folder": "the folder is written"}
 # What is told of tables over a limit before their match begins.
-NOTE = f"note: over a limit of residency: {PROGRAM} matches this, seal and verify don't take it"
+NOTE = f"note: over a limit of residency: {PROGRAM} matches this"
 
 
 def line() -> str:

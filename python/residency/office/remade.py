@@ -171,7 +171,7 @@ def matched_again(source: Source) -> Matched:
     result = running.matched(source.market, source.timeout, source.details)
     if source.journal is None:
         return result
-    _, replay = run_program("residency", ["replay"], result.docket + result.sheet + source.journal, source.timeout)
+    _, replay = run_program(source.market.program("residency"), ["replay"], result.docket + result.sheet + source.journal, source.timeout)
     return replace(result, journal=source.journal, replay=replay)
 
 

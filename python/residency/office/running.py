@@ -134,7 +134,7 @@ def fill_sealed(draft: Draft, market: Market, details: Details, wishes: Wishes, 
     if has:
         names = {name: market.names.docket_name(RESIDENT, name) for name in market.resident_lists}
         draft.write(folder.DETAILS, rosters.details_table(details, names))
-    _, version = run_program("residency", ["--version"], b"", wishes.timeout)
+    _, version = run_program(market.program("residency"), ["--version"], b"", wishes.timeout)
     draft.finish({**begun(wishes, version.decode("utf-8", "replace").strip()), **manifest, **ended(market, has, roots)})
     return roots
 

@@ -31,8 +31,6 @@ def refuse_alike(names: Names) -> None:
 
 def seal(out: str, market: Market, details: Details, wishes: Wishes, manifest: Dict[str, object]) -> Roots:
     """Seals a market into a new folder."""
-    if market.is_national:
-        raise OfficeError("seal.large", 3)
     if "from" not in manifest:
         refuse_alike(market.names)
     with folder.new_folder(out, private=True) as draft:

@@ -6,7 +6,6 @@ doesn't say in which line a setting is at fault (and its reader of TOML comes wi
 from dataclasses import dataclass, field
 from typing import Any, Callable, Dict, Iterator, List, Mapping, Tuple
 
-from ..passes import NATIONAL, STANDARD, Most
 from .cells import WORDS, known_delimiter
 from .faults import Faults, FaultsError, OfficeError
 from .headings import HEADING, ROLES, plain
@@ -45,12 +44,6 @@ class Settings:
     language_column: str = ""
     allow_lost_letters: bool = False
     allow_alike: bool = False
-    # Whether the lists are to be sealed: no file says it.
-    is_sealed: bool = False
-
-    def most(self) -> Most:
-        """How much is matched at once: the program that seals takes no more than the standard limits."""
-        return STANDARD if self.is_sealed else NATIONAL
 
     def texts(self) -> Dict[str, str]:
         """What is said of every letter."""

@@ -5,7 +5,7 @@ from dataclasses import dataclass, field
 from itertools import chain, islice
 from typing import Dict, List, NamedTuple, Optional, Sequence, Set, Tuple
 
-from ..passes import MOST_PLACES
+from ..passes import MOST_PLACES, NATIONAL
 from . import sheets
 from .cells import Cells, Rows, other_mark, rows_of, tidied
 from .faults import Cell, Fault, Faults, Remedy, Values
@@ -107,7 +107,7 @@ class Members:
 
     def __init__(self, table: Table, heading: List[str], columns: Columns, options: Settings, faults: Faults) -> None:
         self.table, self.columns, self.options, self.faults = table, columns, options, faults
-        self.head, self.most = heading, getattr(options.most(), f"{table.owners}s")
+        self.head, self.most = heading, getattr(NATIONAL, f"{table.owners}s")
         self.by_name: Dict[str, Entry] = {}
         self.by_id: Dict[str, Entry] = {}
         self.ranks: Dict[int, Dict[int, Item]] = {}
@@ -240,7 +240,7 @@ class Members:
             self.by_id[ident] = entry
         self.table.entries.append(entry)
         if len(self.table.entries) == self.most + 1:
-            self.tell("limit.members", number, self.columns.owner, {"most": self.most, "things": f"{self.table.owners}s", "sealed": self.options.is_sealed})
+            self.tell("limit.members", number, self.columns.owner, {"most": self.most, "things": f"{self.table.owners}s"})
         return entry
 
     def keep(self, number: int, entry: Entry, row: List[str]) -> None:

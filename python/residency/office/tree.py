@@ -9,6 +9,7 @@ from ..docket import Docket, bytes_of, read_docket
 from ..errors import DocketFault
 from ..key import csv_row, read_key, to_cell
 from ..names import PROGRAMME, RESIDENT, Member
+from ..passes import NATIONAL
 
 LISTS, RESULT = "lists", "result"
 Row = Sequence[object]
@@ -134,7 +135,7 @@ class Sealed:
     """The trees of a docket with its key's names and, with a sheet, of its result. DocketFault, KeyFault."""
 
     def __init__(self, docket: bytes, secret: bytes, sheet: Optional[bytes] = None, key: bytes = b"") -> None:
-        read = read_docket(docket + (sheet or b""))
+        read = read_docket(docket + (sheet or b""), NATIONAL)
         self.members = members(read)
         self.trees = {LISTS: Tree(list_texts(read, {member[:2]: member for member in read_key(key).members()}), secret, b"L")}
         if sheet is not None:

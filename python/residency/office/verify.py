@@ -13,10 +13,12 @@ from dataclasses import dataclass, field
 from pathlib import Path
 from typing import Any, Callable, Dict, List, NamedTuple, Optional, Sequence
 
+from ..dictionaries import limits, sizes
 from ..errors import ResidencyError
 from ..key import read_key, write_key
 from ..market import Market
-from ..passes import STANDARD
+from ..names import PROGRAMME, RESIDENT
+from ..passes import NATIONAL, STANDARD
 from ..program import run_program
 from . import folder, remade, rosters, rounds, seal, tree
 from .faults import MOST_SHOWN, OfficeError, counted, shown
@@ -100,6 +102,7 @@ class Verifier:
         self.data: Dict[str, bytes] = {}
         self.files = [name for name in PARTS if name in self.there]
         self.rows: Dict[str, List[List[str]]] = {}
+        self.program = "residency"
 
     def add(self, what: str, said: str, holds: Optional[bool] = None) -> None:
         self.done.lines.append(Checked(what, said, holds))
@@ -155,15 +158,14 @@ class Verifier:
         rows = self.rows[folder.DOCKET]
         gone = [f"{'programme' if row[1:2] == ['P'] else 'resident'} {shown(','.join(row[2:]))}" for row in rows if row[0] == "W"]
         counts = Counter(row[0] for row in rows)
-        if counts["Q"] > STANDARD.programmes or counts["R"] > STANDARD.residents:
-            raise OfficeError("verify.large", 3, self.at)
+        self.program = "national" if is_national(rows) else self.program
         self.add("members", f"{counts['Q']:,} programmes and {counts['R']:,} residents")
         self.add("withdrawn", ", ".join(gone) or "nobody")
 
     def asked(self, what: str, word: str, *names: str) -> Optional[List[str]]:
         """The lines that the program answers of these parts, or none where it refuses them, which is told."""
         try:
-            _, answer = run_program("residency", [word], self.joined(*names), self.timeout)
+            _, answer = run_program(self.program, [word], self.joined(*names), self.timeout)
         except ResidencyError as fault:
             self.tell(what, str(fault), False)
             return None
@@ -228,9 +230,9 @@ class Verifier:
         data = self.joined(folder.DOCKET)
         try:
             if folder.KEY not in self.there:
-                return Market.from_docket(data)
-            market = Market.from_docket(data, read_key(self.bytes_of(folder.KEY)))
-            return Market.from_docket(data, remade.own_names(market))
+                return Market.from_docket(data, most=NATIONAL)
+            market = Market.from_docket(data, read_key(self.bytes_of(folder.KEY)), NATIONAL)
+            return Market.from_docket(data, remade.own_names(market), NATIONAL)
         except ResidencyError as fault:
             self.tell("docket and key", shown(str(fault), 300), False)
             return None
@@ -336,7 +338,7 @@ class Verifier:
         market = source.market
         try:
             match = market.match(timeout=self.timeout)
-            _, answer = run_program("why", ["--all"], market.docket() + match.sheet, self.timeout)
+            _, answer = run_program(market.program("why"), ["--all"], market.docket() + match.sheet, self.timeout)
         except ResidencyError as fault:
             self.tell("reasons", str(fault), False)
             return
@@ -399,6 +401,13 @@ class Verifier:
         endings = {name[-4:] for name in self.there if folder.needs(name, {folder.RECEIPTS})}
         return endings == {".csv"} and not self.tell("files", "an earlier version of office made this folder, whose receipts are .csv files: verify "
                                                      "it with that version", False)
+
+
+def is_national(rows: List[List[str]]) -> bool:
+    """Whether a docket's records are over a standard limit, so that the programs of the national limits answer."""
+    quotas, *lists = ({row[1]: row[2:] for row in rows if row[0] == kind and len(row) > 1} for kind in "QPR")
+    gone = [[row[2] for row in rows if row[0] == "W" and row[1:2] == [side] and len(row) > 2] for side in (PROGRAMME, RESIDENT)]
+    return bool(limits(sizes(dict.fromkeys(quotas, 0), *lists, *gone), STANDARD))
 
 
 def rows_of(text: str) -> List[List[str]]:
