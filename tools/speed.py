@@ -16,7 +16,7 @@ DOCKETS = {
     "market-200000": "market of 2,000 and 20,000, 200,000 pairs",
     "reversed": "lists against one another",
     "ladder": "2,000 programmes of one place, 100 residents who like the later ones better",
-    "chain": "one displacement after another, 18,000 idle residents first",
+    "chain": "one displacement after another, after 18,000 residents who list nobody",
 }
 # How our program ran, by the name of its runs.
 RUNS = {"full": "2 workers", "one": "2 workers, mailboxes of 1 place", "workers-1": "1 worker", "workers-4": "4 workers", "workers-8": "8 workers",

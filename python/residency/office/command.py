@@ -185,7 +185,7 @@ def read_as_json(read: Read) -> str:
     """All that a check finds, as one line of JSON."""
     places, places_of = read.sheets(), read.market.quotas if read.market is not None else {}
     tables = [{"table": table.name, "file": table.path, "sha256": table.sha256, "encoding": table.text.encoding, "delimiter": table.rows.delimiter,
-               "sheet": table.rows.sheet, "heading_row": table.heading, "is_long": table.is_long, "members": len(table.entries)}
+               "sheet": table.rows.sheet, "heading_row": table.heading_row, "is_long": table.is_long, "members": len(table.entries)}
               for table in read.tables]
     found = {"tables": tables, "places": sum(places_of.values()), "counts": {kind: count for kind, count in read.faults.counts.items() if count},
              "faults": [as_dict(fault, places) for fault in read.faults.every()], "notes": [as_dict(table_note, places) for table_note in read.notes()]}

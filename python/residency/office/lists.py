@@ -223,7 +223,7 @@ class Joiner:
             is_named = known and 2 * len([text for text in known if any(c.isalpha() for c in text)]) >= len(texts)
             if is_named or len(texts) == len(known) >= FEW_IDS:
                 values = {"heading": heading, "owners": directory.table.owners, "name": known[0], "word": bare("rank", heading)}
-                self.faults.tell("heading.members", table.name, table.heading, cell + 1, values, remedies=meanings("rank", heading))
+                self.faults.tell("heading.members", table.name, table.heading_row, cell + 1, values, remedies=meanings("rank", heading))
 
 
 def docket_names_of(table: Table, letter: str) -> List[str]:

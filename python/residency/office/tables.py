@@ -87,7 +87,7 @@ class Table:
     kept: List[str] = field(default_factory=list)
     kept_at: List[int] = field(default_factory=list)
     unread: Dict[int, Tuple[str, Set[str]]] = field(default_factory=dict)
-    heading: int = 1
+    heading_row: int = 1
     # The language of the headings.
     language: str = "English"
 
@@ -119,7 +119,7 @@ class Members:
         # or not.
         self.short: List[Tuple[int, int]] = []
         self.short_count, self.count, self.padded = 0, 0, False
-        self.last = table.heading
+        self.last = table.heading_row
         # The rows that have no ID where a column is headed so.
         self.without_id: List[Item] = []
         # The columns without a heading in which nothing stands.
@@ -336,18 +336,18 @@ class Members:
             values = {"count": len(self.gaps), "name": self.gaps[0].text, "row": self.gaps[0].row}
             self.note("note.gaps", [Cell(self.table.name, gap.row, gap.cell) for gap in self.gaps], values)
         if not self.table.entries and not len(self.faults):
-            self.tell("file.no-rows", self.table.heading + 1, self.columns.owner, {"owners": self.table.owners})
+            self.tell("file.no-rows", self.table.heading_row + 1, self.columns.owner, {"owners": self.table.owners})
         self.note_hidden()
         if self.columns.withdrawn is not None:
             gone = [entry for entry in self.table.entries if entry.withdrawn]
-            cells = [Cell(self.table.name, gone_entry.row, gone_entry.cell) for gone_entry in gone] or [Cell(self.table.name, self.table.heading, self.columns.withdrawn + 1)]
+            cells = [Cell(self.table.name, gone_entry.row, gone_entry.cell) for gone_entry in gone] or [Cell(self.table.name, self.table.heading_row, self.columns.withdrawn + 1)]
             self.note("note.withdrawn", cells, {"heading": self.head[self.columns.withdrawn], "names": [gone_entry.name for gone_entry in gone]})
         if self.blank:
             columns = sorted(cell + 1 for cell in self.blank)
-            self.note("note.blank-columns", [Cell(self.table.name, self.table.heading, column) for column in columns], {"columns": columns})
+            self.note("note.blank-columns", [Cell(self.table.name, self.table.heading_row, column) for column in columns], {"columns": columns})
         if self.table.unread:
             unread = [(heading, cell + 1) for cell, (heading, _) in self.table.unread.items()]
-            self.note("note.unread", [Cell(self.table.name, self.table.heading, column) for _, column in unread],
+            self.note("note.unread", [Cell(self.table.name, self.table.heading_row, column) for _, column in unread],
                       {"columns": unread, "keeps": self.table.owners == "resident"})
 
     def note_hidden(self) -> None:
@@ -358,7 +358,7 @@ class Members:
             self.note("note.hidden", [Cell(self.table.name, row, self.columns.owner + 1) for row in rows],
                       {"rows": [(row, named.get(row, "")) for row in rows]})
         if columns:
-            self.note("note.hidden-columns", [Cell(self.table.name, self.table.heading, column) for column in columns],
+            self.note("note.hidden-columns", [Cell(self.table.name, self.table.heading_row, column) for column in columns],
                       {"columns": [(column, cell_of(self.head, column - 1)) for column in columns]})
 
     def note(self, code: str, cells: List[Cell], values: Values) -> None:
@@ -463,7 +463,7 @@ def read_table(given: Given, name: str, owners: str, words: Words, options: Sett
     columns = headed(name, owners, number, heading, rows, words, faults)
     if columns is None:
         return table
-    table.is_long, table.heading, table.language = columns.is_long, number, columns.language
+    table.is_long, table.heading_row, table.language = columns.is_long, number, columns.language
     members = Members(table, heading, columns, options, faults)
     for below, row in rows.unread:
         members.take(below, row)
