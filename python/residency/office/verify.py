@@ -405,9 +405,9 @@ class Verifier:
 
 def is_national(rows: List[List[str]]) -> bool:
     """Whether a docket's records are over a standard limit, so that the programs of the national limits answer."""
-    quotas, *lists = ({row[1]: row[2:] for row in rows if row[0] == kind and len(row) > 1} for kind in "QPR")
-    gone = [[row[2] for row in rows if row[0] == "W" and row[1:2] == [side] and len(row) > 2] for side in (PROGRAMME, RESIDENT)]
-    return bool(limits(sizes(dict.fromkeys(quotas, 0), *lists, *gone), STANDARD))
+    quotas, programmes, residents = ({row[1]: row[2:] for row in rows if row[0] == kind and len(row) > 1} for kind in "QPR")
+    left, gone = ([row[2] for row in rows if row[0] == "W" and row[1:2] == [side] and len(row) > 2] for side in (PROGRAMME, RESIDENT))
+    return bool(limits(sizes(dict.fromkeys(quotas, 0), programmes, residents, left, gone), STANDARD))
 
 
 def rows_of(text: str) -> List[List[str]]:
