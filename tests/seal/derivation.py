@@ -2,7 +2,6 @@
 from __future__ import annotations
 
 import csv
-import functools
 import hashlib
 import os
 import re
@@ -104,7 +103,6 @@ class Sealed:
         last: List[Sequence[object]] = [("N", *map(quoted, filter(None, real)))] if real else []
         return text_of(rows + [("W", side, name)] * ((side, name) in self.gone) + last)
 
-    @functools.lru_cache(maxsize=1)
     def trees(self) -> Dict[str, Tree]:
         leaves = {"lists": self.lists} if self.results is None else {"lists": self.lists, "result": self.results}
         return {word: Tree(texts, self.secret, word[0].upper()) for word, texts in leaves.items()}
@@ -113,7 +111,6 @@ class Sealed:
         """The rows of roots that are published."""
         return text_of([(word, len(self.names), tree.root) for word, tree in self.trees().items()])
 
-    @functools.lru_cache(maxsize=1)
     def receipts(self) -> List[bytes]:
         """Each member's receipt, in order."""
         trees = self.trees()
