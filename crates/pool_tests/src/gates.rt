@@ -217,7 +217,7 @@ fn is_entered_after(outcome: &Outcome, hold: &Hold, workers: usize) -> bool {
 }
 
 // Whether a call of `pass` was kept waiting, and its receipt was entered only after the wait.
-fn is_late_enough(outcome: &Outcome, gate: &Stalls, workers: usize) -> bool {
+fn is_late_enough<R: Wait + Copy>(outcome: &Outcome, gate: &Stalls<R>, workers: usize) -> bool {
     match gate.hold() {
         Some(hold) => is_entered_after(outcome, &hold, workers),
         None => false,
@@ -234,7 +234,7 @@ fn is_held<R: Threads + Wait + Sync + Send + Copy>(
     place: u64,
 ) -> bool {
     let (cap, workers) = form;
-    let gate = Stalls::new(place);
+    let gate = Stalls::new(rt, place);
     let Ok(outcome) = ran_on(rt, alloc, inst, cap, workers, &gate) else {
         return false;
     };

@@ -8,7 +8,6 @@ pub use counter::Counting;
 pub use holding::{AllButOne, Firm, Held, Loose, Order};
 pub use resting::{AfterAnother, Hold, HoldsEntered, HoldsVisit, Rested, Stalls};
 use std::sync::atomic::{AtomicU64, Ordering};
-use std::thread;
 pub use stopping::{StopsAtOnce, StopsBy, StopsFrom};
 
 /// How often a gate tests whether another worker has entered an event.
@@ -54,22 +53,5 @@ impl Counts {
             sum = sum.saturating_add(count.load(Ordering::SeqCst));
         }
         sum
-    }
-
-    // Waits until no worker has entered an event for a long time. Returns how many events were entered by then.
-    fn at_rest(&self) -> u64 {
-        let mut last_sum = self.of_all();
-        let mut turns = 0;
-        for _ in 0..TURNS {
-            let sum = self.of_all();
-            turns = if sum == last_sum { turns } else { 0 };
-            last_sum = sum;
-            if turns >= LINGER {
-                break;
-            }
-            turns = turns.saturating_add(1);
-            thread::yield_now();
-        }
-        last_sum
     }
 }

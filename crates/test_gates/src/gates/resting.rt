@@ -26,10 +26,18 @@ pub struct Hold {
     pub to: u64,
 }
 
+/// How many pauses of a millisecond without an event show that the other workers are at rest.
+const PAUSES: u32 = 30;
+
+/// How many such pauses a gate makes at most.
+const MOST_PAUSES: u32 = 10_000;
+
 /// A gate that keeps one call of `pass` waiting until no worker has entered an event for a long time, and notes this
 /// wait.
 #[derive(Drop)]
-pub struct Stalls {
+pub struct Stalls<R: Wait + Copy> {
+    rt: R,
+    clock: AtomicU64,
     place: u64,
     passed: AtomicU64,
     worker: AtomicU64,
@@ -42,10 +50,12 @@ pub struct Stalls {
     counts: Counts,
 }
 
-impl Stalls {
+impl<R: Wait + Copy> Stalls<R> {
     /// A gate before the run. It keeps the call with the number `place` waiting, counted from 0.
-    pub fn new(place: u64) -> Stalls {
+    pub fn new(rt: R, place: u64) -> Stalls<R> {
         Stalls {
+            rt,
+            clock: AtomicU64::new(0),
             place,
             passed: AtomicU64::new(0),
             worker: AtomicU64::new(0),
@@ -84,6 +94,27 @@ impl Stalls {
         })
     }
 
+    // Waits until no worker has entered an event for a long time. Returns how many events were entered by then.
+    fn wait_for_rest(&self) -> u64 {
+        let mut entered = self.counts.of_all();
+        let mut quiet_pauses = 0_u32;
+        for _ in 0..MOST_PAUSES {
+            if quiet_pauses >= PAUSES {
+                break;
+            }
+            self.clock
+                .park_timeout(&self.rt, 0, Duration::from_millis(1));
+            let entered_by_now = self.counts.of_all();
+            quiet_pauses = if entered_by_now == entered {
+                quiet_pauses.saturating_add(1)
+            } else {
+                0
+            };
+            entered = entered_by_now;
+        }
+        entered
+    }
+
     // Notes the worker and the desk of the call that is kept waiting.
     fn note(&self, worker: usize, desk: Desk) {
         self.worker.store(worker as u64, Ordering::SeqCst);
@@ -99,7 +130,7 @@ impl Stalls {
     }
 }
 
-impl Gate for Stalls {
+impl<R: Wait + Copy + Sync> Gate for Stalls<R> {
     ghost MAY_STOP = { false };
 
     const MAY_STOP: bool = false;
@@ -109,7 +140,7 @@ impl Gate for Stalls {
             return Go::On;
         }
         self.note(worker, desk);
-        self.to.store(self.counts.at_rest(), Ordering::SeqCst);
+        self.to.store(self.wait_for_rest(), Ordering::SeqCst);
         self.held.store(true, Ordering::SeqCst);
         Go::On
     }
