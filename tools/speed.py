@@ -254,7 +254,7 @@ def commits(top: str) -> str:
 def readme(top: str) -> str:
     """The speed of a match at the limits, in a sentence."""
     it = Seconds(top)
-    return (f"A match at the limits took {it.median(MARKET, 'full'):.2f} s of processor time and {it.median(MARKET, 'full', 'mb'):.0f} MB of memory "
+    return (f"A match at the limits of `./residency` took {it.median(MARKET, 'full'):.2f} s of processor time and {it.median(MARKET, 'full', 'mb'):.0f} MB of memory "
             f"on {it.of.day} ([docs/speed.md](docs/speed.md)).")
 
 

@@ -35,7 +35,7 @@ def shared(top: str, name: str, made: Iterable[str] = ()) -> str:
 def points(text: str) -> str:
     """What stands in bold in the items of a list, each a short sentence, with a link to the list."""
     heads = [f"{it.rstrip('.')}." for it in re.findall(r"^- \*\*(.*?)\*\*", text, re.M)]
-    return f"[docs/statement.md](docs/statement.md#what-is-not-claimed) explains these {len(heads)} points. {' '.join(heads)}"
+    return f"Nothing is claimed about these {len(heads)} points, which [docs/statement.md](docs/statement.md#what-is-not-claimed) explains. {' '.join(heads)}"
 
 
 def cell(text: str) -> str:
