@@ -117,17 +117,17 @@ fn run_named<
     let reserve = Reserve::new(alloc, inst, workers)?;
     let Blanks {
         entries,
-        workers: counts,
+        workers: worker_blanks,
     } = blanks;
-    let start = RunStart::<J, M> {
+    let run_start = RunStart::<J, M> {
         alloc,
         mailboxes,
         inst,
         cap,
         exchange: PhantomData,
     };
-    let (counts, crew, ranks) = counts.open();
-    let (shared, tallies) = start.shared::<G>(entries, counts, workers as u32)?;
+    let (worker_counts, crew, ranks) = worker_blanks.open();
+    let (shared, tallies) = run_start.shared::<G>(entries, worker_counts, workers as u32)?;
     let tallies = drive(rt, alloc, inst, &shared, gate, tallies, crew, ranks)?;
     reserve.finish(inst, shared, tallies)
 }
