@@ -12,18 +12,18 @@ use std::thread;
 pub use stopping::{StopsAtOnce, StopsBy, StopsFrom};
 
 /// How often a gate tests whether another worker has entered an event.
-const TURNS: u32 = 10_000_000;
+const MOST_TURNS: u32 = 10_000_000;
 
 /// How many turns a gate gives the other workers to finish what they have begun.
-const LINGER: u32 = 100;
+const LINGER_TURNS: u32 = 100;
 
 /// For each of at most eight workers, how many events the worker has entered, as the gate counts them.
 #[derive(Drop)]
-struct Counts([AtomicU64; 8]);
+struct EntryCounts([AtomicU64; 8]);
 
-impl Counts {
-    fn none() -> Counts {
-        Counts([
+impl EntryCounts {
+    fn none() -> EntryCounts {
+        EntryCounts([
             AtomicU64::new(0),
             AtomicU64::new(0),
             AtomicU64::new(0),
@@ -36,40 +36,44 @@ impl Counts {
     }
 
     fn add(&self, worker: usize) {
-        if let Some(count) = self.0.get(worker) {
-            count.fetch_add(1, Ordering::SeqCst);
+        if let Some(worker_count) = self.0.get(worker) {
+            worker_count.fetch_add(1, Ordering::SeqCst);
         }
     }
 
     fn of(&self, worker: usize) -> u64 {
         match self.0.get(worker) {
-            Some(count) => count.load(Ordering::SeqCst),
+            Some(worker_count) => worker_count.load(Ordering::SeqCst),
             None => 0,
         }
     }
 
     fn of_all(&self) -> u64 {
-        let mut sum = 0_u64;
-        for count in &self.0 {
-            sum = sum.saturating_add(count.load(Ordering::SeqCst));
+        let mut entry_sum = 0_u64;
+        for worker_count in &self.0 {
+            entry_sum = entry_sum.saturating_add(worker_count.load(Ordering::SeqCst));
         }
-        sum
+        entry_sum
     }
 
     // Waits until no worker has entered an event for a long time. Returns how many events were entered by then.
     fn at_rest(&self) -> u64 {
-        let mut last_sum = self.of_all();
-        let mut turns = 0;
-        for _ in 0..TURNS {
-            let sum = self.of_all();
-            turns = if sum == last_sum { turns } else { 0 };
-            last_sum = sum;
-            if turns >= LINGER {
+        let mut last_entry_sum = self.of_all();
+        let mut quiet_turns = 0;
+        for _ in 0..MOST_TURNS {
+            let entry_sum = self.of_all();
+            quiet_turns = if entry_sum == last_entry_sum {
+                quiet_turns
+            } else {
+                0
+            };
+            last_entry_sum = entry_sum;
+            if quiet_turns >= LINGER_TURNS {
                 break;
             }
-            turns = turns.saturating_add(1);
+            quiet_turns = quiet_turns.saturating_add(1);
             thread::yield_now();
         }
-        last_sum
+        last_entry_sum
     }
 }
