@@ -12,7 +12,7 @@ pub const RANK_PARTS: u64 = 128;
 pub struct RankLedger<J: WorkersIdentity>(PhantomData<J>);
 
 impl<J: WorkersIdentity> Ledger for RankLedger<J> {
-    ghost name = { J.ranks };
+    ghost name = { J.rank_ledger };
 
     ghost parts = { 128 };
 }
@@ -30,7 +30,7 @@ pub struct Ranks<J: WorkersIdentity> {
 impl<J: WorkersIdentity> Ranks<J> {
     /// All ranks of a run.
     pub fn all(blank: Blank) -> Ranks<J>
-        requires name { blank.name ≡ J.ranks }
+        requires name { blank.name ≡ J.rank_ledger }
         requires parts { blank.parts ≡ 128 }
     {
         let (_book, share) = blank.open::<RankLedger<J>>();

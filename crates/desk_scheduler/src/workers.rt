@@ -14,23 +14,23 @@ pub const WORKER_PARTS: u64 = 64;
 /// Names the four ledgers of a run: three count the workers, and the fourth has the ranks of the threads. Each run
 /// has four ledgers of its own.
 pub trait WorkersIdentity {
-    ghost holding: { ℕ };
+    ghost holding_ledger: { ℕ };
 
-    ghost looking: { ℕ };
+    ghost looking_ledger: { ℕ };
 
-    ghost resting: { ℕ };
+    ghost resting_ledger: { ℕ };
 
-    ghost ranks: { ℕ };
+    ghost rank_ledger: { ℕ };
 }
 
 impl WorkersIdentity for Brand {
-    ghost holding = { 0 };
+    ghost holding_ledger = { 0 };
 
-    ghost looking = { 0 };
+    ghost looking_ledger = { 0 };
 
-    ghost resting = { 0 };
+    ghost resting_ledger = { 0 };
 
-    ghost ranks = { 0 };
+    ghost rank_ledger = { 0 };
 }
 
 /// Four ledgers without a name, for the counts of one run's workers and the ranks of its threads.
@@ -62,10 +62,10 @@ impl WorkerBlanks {
     /// Opens the four ledgers of the run that the type names, before any worker begins. The result is the workers'
     /// counts, what workers need to begin, and the ranks of all threads.
     pub fn open<J: WorkersIdentity>(self) -> (Workers<J>, Crew<J>, Ranks<J>)
-        requires holding { self.holding.name ≡ J.holding }
-        requires looking { self.looking.name ≡ J.looking }
-        requires resting { self.resting.name ≡ J.resting }
-        requires ranks { self.ranks.name ≡ J.ranks }
+        requires holding { self.holding.name ≡ J.holding_ledger }
+        requires looking { self.looking.name ≡ J.looking_ledger }
+        requires resting { self.resting.name ≡ J.resting_ledger }
+        requires ranks { self.ranks.name ≡ J.rank_ledger }
         ensures { (result.0.begun ≡ 0) × (result.0.without_desk ≡ 0) }
     {
         let WorkerBlanks {
@@ -89,19 +89,19 @@ pub struct LookingLedger<J: WorkersIdentity>(PhantomData<J>);
 pub struct RestingLedger<J: WorkersIdentity>(PhantomData<J>);
 
 impl<J: WorkersIdentity> Ledger for HoldingLedger<J> {
-    ghost name = { J.holding };
+    ghost name = { J.holding_ledger };
 
     ghost parts = { 64 };
 }
 
 impl<J: WorkersIdentity> Ledger for LookingLedger<J> {
-    ghost name = { J.looking };
+    ghost name = { J.looking_ledger };
 
     ghost parts = { 64 };
 }
 
 impl<J: WorkersIdentity> Ledger for RestingLedger<J> {
-    ghost name = { J.resting };
+    ghost name = { J.resting_ledger };
 
     ghost parts = { 64 };
 }
@@ -176,8 +176,8 @@ pub struct Workers<J: WorkersIdentity> {
 impl<J: WorkersIdentity> Workers<J> {
     /// The counts before any worker has begun, and the crew of all workers.
     pub fn none(holding: Blank, looking: Blank, resting: Blank) -> (Workers<J>, Crew<J>)
-        requires names { (holding.name ≡ J.holding)
-            × (looking.name ≡ J.looking) × (resting.name ≡ J.resting) }
+        requires names { (holding.name ≡ J.holding_ledger)
+            × (looking.name ≡ J.looking_ledger) × (resting.name ≡ J.resting_ledger) }
         requires parts { (holding.parts ≡ 64) × (looking.parts ≡ 64) × (resting.parts ≡ 64) }
         ensures { (result.0.begun ≡ 0) × (result.0.without_desk ≡ 0) }
     {
