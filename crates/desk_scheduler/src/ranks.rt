@@ -12,7 +12,7 @@ pub const RANK_PARTS: u64 = 128;
 pub struct RankLedger<J: WorkersIdentity>(PhantomData<J>);
 
 impl<J: WorkersIdentity> Ledger for RankLedger<J> {
-    ghost name = { J.ranks };
+    ghost name = { J.rank_ledger };
 
     ghost parts = { 128 };
 }
@@ -21,46 +21,49 @@ impl<J: WorkersIdentity> Ledger for RankLedger<J> {
 /// worker gets a second pair of ranks.
 #[derive(Drop)]
 pub struct Ranks<J: WorkersIdentity> {
-    threads: u64,
-    parts: Share<RankLedger<J>>,
-    ghost two_each: { parts.parts ≡ 2 * threads },
-    ghost amount: { parts.amount ≡ 0 },
+    threads_left: u64,
+    share: Share<RankLedger<J>>,
+    ghost two_each: { share.parts ≡ 2 * threads_left },
+    ghost amount: { share.amount ≡ 0 },
 }
 
 impl<J: WorkersIdentity> Ranks<J> {
     /// All ranks of a run.
     pub fn all(blank: Blank) -> Ranks<J>
-        requires name { blank.name ≡ J.ranks }
+        requires name { blank.name ≡ J.rank_ledger }
         requires parts { blank.parts ≡ 128 }
     {
-        let (_book, parts) = blank.open::<RankLedger<J>>();
+        let (_book, share) = blank.open::<RankLedger<J>>();
         Ranks {
-            threads: RANK_PARTS / 2,
-            parts,
+            threads_left: RANK_PARTS / 2,
+            share,
         }
     }
 
     /// The ranks of one more thread: two parts of the ledger. The result is none if 64 threads have their ranks
     /// already.
     pub fn of_thread(&mut self) -> Option<Share<RankLedger<J>>>
-        ensures two { IfSome result (λ parts. (parts.parts ≡ 2) × (parts.amount ≡ 0)) }
-        ensures one { IfSome result (λ _. self.new.threads + 1 ≡ self.old.threads) }
-        ensures none { IfNone result ((self.old.threads ≡ 0) × (self.new ≡ self.old)) }
+        ensures two { IfSome result (λ share. (share.parts ≡ 2) × (share.amount ≡ 0)) }
+        ensures one { IfSome result (λ _. self.new.threads_left + 1 ≡ self.old.threads_left) }
+        ensures none { IfNone result ((self.old.threads_left ≡ 0) × (self.new ≡ self.old)) }
     {
-        if self.threads == 0 {
+        if self.threads_left == 0 {
             return None;
         }
-        Some(self.cut())
+        Some(self.cut_pair())
     }
 
     // Cuts two parts for one more thread.
-    fn cut(&mut self) -> Share<RankLedger<J>>
-        requires { self.old.threads ≢ 0 }
+    fn cut_pair(&mut self) -> Share<RankLedger<J>>
+        requires { self.old.threads_left ≢ 0 }
         ensures two { (result.parts ≡ 2) × (result.amount ≡ 0) }
-        ensures one { self.new.threads + 1 ≡ self.old.threads }
+        ensures one { self.new.threads_left + 1 ≡ self.old.threads_left }
     {
-        let Ranks { threads, parts } = self;
-        *threads -= 1;
-        parts.split_off(2, 0)
+        let Ranks {
+            threads_left,
+            share,
+        } = self;
+        *threads_left -= 1;
+        share.split_off(2, 0)
     }
 }

@@ -31,7 +31,7 @@ pub struct Scheduler {
     residents: Side,
     programmes: Side,
     first_programme: u32,
-    waiting: usize,
+    waiting_workers: usize,
     ended: bool,
 }
 
@@ -43,7 +43,7 @@ impl Model for Scheduler {
     ghost view = { λ s. record {
       residents = s.residents;
       programmes = s.programmes;
-      waiting = s.waiting;
+      waiting = s.waiting_workers;
       ended = s.ended;
     } };
 
@@ -66,7 +66,7 @@ impl Scheduler {
             residents: Side::idle(alloc, residents)?,
             programmes: Side::ready(alloc, programmes)?,
             first_programme: residents,
-            waiting: 0,
+            waiting_workers: 0,
             ended: false,
         })
     }
@@ -103,15 +103,17 @@ impl Scheduler {
 
     /// Notes that a worker leaves a desk. If the desk may have work again, it is listed.
     #[inline(always)]
-    pub fn let_go(&mut self, desk: u32, again: bool)
-        ensures let_go { self.new ≡ at_desk (λ desks d. letting_go desks d again) self.old desk }
+    pub fn let_go(&mut self, desk: u32, visit_again: bool)
+        ensures let_go { self.new ≡ at_desk (λ desks d.
+            letting_go desks d visit_again) self.old desk }
         ensures goes_on { self.new.ended ≡ self.old.ended }
         ensures waits { self.new.waiting ≡ self.old.waiting }
     {
         if desk < self.first_programme {
-            self.residents.let_go(desk, again);
+            self.residents.let_go(desk, visit_again);
         } else if self.programmes.has(desk - self.first_programme) {
-            self.programmes.let_go(desk - self.first_programme, again);
+            self.programmes
+                .let_go(desk - self.first_programme, visit_again);
         }
     }
 
@@ -173,14 +175,14 @@ impl Scheduler {
         ensures waiting { self.old.waiting + 1 < 2 ^ 64 → self.new.waiting ≡ self.old.waiting + 1 }
         ensures rest { self.new ≡ waiting_now self.old self.new.waiting }
     {
-        self.waiting = self.waiting.saturating_add(1);
+        self.waiting_workers = self.waiting_workers.saturating_add(1);
     }
 
     /// Notes that a worker no longer waits.
     pub fn wait_ends(&mut self)
         ensures { self.new ≡ waiting_now self.old (self.old.waiting - 1) }
     {
-        self.waiting = self.waiting.saturating_sub(1);
+        self.waiting_workers = self.waiting_workers.saturating_sub(1);
     }
 
     /// Ends the run: from now on no worker gets a desk.
@@ -203,7 +205,7 @@ impl Scheduler {
     pub fn wakes_one(&self) -> bool
         ensures { result ≡ (nat_lt 0 self.now.waiting && any_ready self.now) }
     {
-        self.waiting > 0 && (self.residents.is_ready() || self.programmes.is_ready())
+        self.waiting_workers > 0 && (self.residents.is_ready() || self.programmes.is_ready())
     }
 
     /// Whether the run has ended.

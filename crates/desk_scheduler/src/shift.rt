@@ -15,7 +15,7 @@ use std::marker::Model;
 #[derive(Drop)]
 pub struct Hand<J: WorkersIdentity> {
     desk: u32,
-    held: Holding<J>,
+    holding: Holding<J>,
 }
 
 impl<J: WorkersIdentity> Hand<J> {
@@ -72,11 +72,11 @@ impl<J: WorkersIdentity> Shift<J> {
     /// or if the crew has no worker left.
     pub fn begins(&mut self, crew: &mut Crew<J>) -> Option<Looking<J>>
         ensures begun { IfSome result (λ _. self.new.begun ≡ self.old.begun + 1) }
-        ensures crew { IfSome result (λ _. crew.new.left + 1 ≡ crew.old.left) }
+        ensures crew { IfSome result (λ _. crew.new.workers_left + 1 ≡ crew.old.workers_left) }
         ensures looks { IfSome result (λ _. self.new.looking ≡ self.old.looking + 1) }
         ensures others { (self.new.holding ≡ self.old.holding)
             × (self.new.resting ≡ self.old.resting) }
-        ensures none { IfNone result (((63 ≤ self.old.begun) ⊎ (crew.old.left ≡ 0))
+        ensures none { IfNone result (((63 ≤ self.old.begun) ⊎ (crew.old.workers_left ≡ 0))
             × (self.new ≡ self.old) × (crew.new ≡ crew.old)) }
         ensures schedule { self.new.schedule ≡ self.old.schedule }
     {
@@ -97,15 +97,15 @@ impl<J: WorkersIdentity> Shift<J> {
     /// Notes that a worker leaves its desk and looks for a desk again. If the desk that it left may have work again,
     /// this desk is listed.
     #[inline(always)]
-    pub fn let_go(&mut self, hand: Hand<J>, again: bool) -> Looking<J>
+    pub fn let_go(&mut self, hand: Hand<J>, visit_again: bool) -> Looking<J>
         ensures let_go { self.new.schedule
-            ≡ at_desk (λ desks d. letting_go desks d again) self.old.schedule hand.desk }
+            ≡ at_desk (λ desks d. letting_go desks d visit_again) self.old.schedule hand.desk }
         ensures goes_on { self.new.schedule.ended ≡ self.old.schedule.ended }
         ensures counted { GetDesks self.new self.old 1 }
     {
-        let Hand { desk, held } = hand;
-        self.scheduler.let_go(desk, again);
-        self.workers.lets_go(held)
+        let Hand { desk, holding } = hand;
+        self.scheduler.let_go(desk, visit_again);
+        self.workers.lets_go(holding)
     }
 
     /// Gives a worker that looks for a desk the first listed one, until the run ends.
@@ -116,8 +116,8 @@ impl<J: WorkersIdentity> Shift<J> {
         ensures goes_on { self.new.schedule.ended ≡ self.old.schedule.ended }
         ensures counted { GetDesks self.old self.new (desks_in result) }
     {
-        let next = self.scheduler.next();
-        self.gets(next, token)
+        let next_desk = self.scheduler.next();
+        self.turn_for(next_desk, token)
     }
 
     /// Gives a worker that looks for a desk this one if it is idle, else the first listed one. The worker gets no
@@ -132,21 +132,21 @@ impl<J: WorkersIdentity> Shift<J> {
         ensures goes_on { self.new.schedule.ended ≡ self.old.schedule.ended }
         ensures counted { GetDesks self.old self.new (desks_in result) }
     {
-        let next = self.scheduler.claim_or_next(desk);
-        self.gets(next, token)
+        let next_desk = self.scheduler.claim_or_next(desk);
+        self.turn_for(next_desk, token)
     }
 
     // The worker's new token, for the answer that the scheduler gave to the worker.
     #[inline(always)]
-    fn gets(&mut self, next: Next, token: Looking<J>) -> TurnOf<J>
-        ensures next { next_in (λ hand. hand.desk) result ≡ next }
+    fn turn_for(&mut self, next_desk: Next, token: Looking<J>) -> TurnOf<J>
+        ensures next { next_in (λ hand. hand.desk) result ≡ next_desk }
         ensures schedule { self.new.schedule ≡ self.old.schedule }
         ensures counted { GetDesks self.old self.new (desks_in result) }
     {
-        match next {
+        match next_desk {
             Next::Desk(desk) => Turn::Desk(Hand {
                 desk,
-                held: self.workers.takes(token),
+                holding: self.workers.takes(token),
             }),
             Next::Nothing => Turn::Nothing(token),
             Next::Ended => Turn::Ended(token),

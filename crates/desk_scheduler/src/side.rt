@@ -27,8 +27,8 @@ pub(crate) enum Place {
 #[derive(Debug, Drop)]
 pub(crate) struct Side {
     places: Vec<Place>,
-    listed: Vec<u32>,
-    behind: Vec<u32>,
+    first_tier: Vec<u32>,
+    second_tier: Vec<u32>,
 }
 
 impl Model for Side {
@@ -39,12 +39,12 @@ impl Model for Side {
 
     ghost view = { λ s. record {
       places = s.places.items;
-      ready = reverse s.listed.items;
-      behind = reverse s.behind.items;
+      ready = reverse s.first_tier.items;
+      behind = reverse s.second_tier.items;
     } };
 
-    ghost invariant = { λ s. AreListed s.places.items s.listed.items s.behind.items
-        (vec_capacity s.listed) (vec_capacity s.behind) };
+    ghost invariant = { λ s. AreListed s.places.items s.first_tier.items s.second_tier.items
+        (vec_capacity s.first_tier) (vec_capacity s.second_tier) };
 }
 
 impl Side {
@@ -55,8 +55,8 @@ impl Side {
     {
         Ok(Side {
             places: vec![in alloc; Place::Idle; desks as usize]?,
-            listed: Vec::with_capacity(alloc, desks as usize)?,
-            behind: Vec::with_capacity(alloc, desks as usize)?,
+            first_tier: Vec::with_capacity(alloc, desks as usize)?,
+            second_tier: Vec::with_capacity(alloc, desks as usize)?,
         })
     }
 
@@ -67,8 +67,8 @@ impl Side {
         ensures behind { IfOk result (λ side. side.behind ≡ []) }
     {
         let mut side = Side::idle(alloc, desks)?;
-        for after in 0..desks {
-            side.list(desks - 1 - after, Wake::Work);
+        for listed_count in 0..desks {
+            side.list(desks - 1 - listed_count, Wake::Work);
         }
         Ok(side)
     }
@@ -86,7 +86,7 @@ impl Side {
     pub(crate) fn is_ready(&self) -> bool
         ensures { result ≡ is_listed self.now }
     {
-        !self.listed.is_empty() || !self.behind.is_empty()
+        !self.first_tier.is_empty() || !self.second_tier.is_empty()
     }
 
     /// Wakes a desk for this reason.
@@ -107,12 +107,12 @@ impl Side {
 
     /// Notes that a worker leaves a desk. If the desk may have work again, it is listed.
     #[inline(always)]
-    pub(crate) fn let_go(&mut self, desk: u32, again: bool)
+    pub(crate) fn let_go(&mut self, desk: u32, visit_again: bool)
         requires { desk < length self.old.places }
-        ensures { self.new ≡ letting_go self.old desk again }
+        ensures { self.new ≡ letting_go self.old desk visit_again }
     {
         match self.places[desk as usize] {
-            Place::InHand if !again => self.places[desk as usize] = Place::Idle,
+            Place::InHand if !visit_again => self.places[desk as usize] = Place::Idle,
             Place::InHand | Place::InHandAgain => self.put(desk),
             Place::Idle | Place::Listed => {}
         }
@@ -126,7 +126,7 @@ impl Side {
         ensures { self.new ≡ on_top self.old desk }
     {
         self.places[desk as usize] = Place::Listed;
-        self.listed.push_reserved(desk);
+        self.first_tier.push_reserved(desk);
     }
 
     // Lists a desk that is not listed yet, in front of the second tier.
@@ -137,7 +137,7 @@ impl Side {
         ensures { self.new ≡ on_top_behind self.old desk }
     {
         self.places[desk as usize] = Place::Listed;
-        self.behind.push_reserved(desk);
+        self.second_tier.push_reserved(desk);
     }
 
     /// Gives a worker the first desk of the first tier, or of the second tier if the first is empty.
@@ -146,7 +146,7 @@ impl Side {
         ensures { MatchOption result ((taken self.old ≡ None) × (self.new ≡ self.old)) (λ desk.
             (taken self.old ≡ Some (desk, self.new)) × (desk < length self.old.places)) }
     {
-        match self.listed.pop() {
+        match self.first_tier.pop() {
             Some(desk) => {
                 self.places[desk as usize] = Place::InHand;
                 Some(desk)
@@ -162,7 +162,7 @@ impl Side {
         ensures { MatchOption result ((taken self.old ≡ None) × (self.new ≡ self.old)) (λ desk.
             (taken self.old ≡ Some (desk, self.new)) × (desk < length self.old.places)) }
     {
-        let desk = self.behind.pop()?;
+        let desk = self.second_tier.pop()?;
         self.places[desk as usize] = Place::InHand;
         Some(desk)
     }

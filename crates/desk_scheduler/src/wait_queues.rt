@@ -13,13 +13,13 @@ use std::marker::Model;
 /// looked up while no desk waits.
 #[derive(Debug, Drop)]
 pub struct WaitQueues {
-    first: Vec<Option<u32>>,
-    last: Vec<Option<u32>>,
-    mailbox: Vec<Option<u32>>,
-    before: Vec<Option<u32>>,
-    behind: Vec<Option<u32>>,
-    called: Vec<bool>,
-    count: usize,
+    first_desks: Vec<Option<u32>>,
+    last_desks: Vec<Option<u32>>,
+    mailboxes: Vec<Option<u32>>,
+    desks_before: Vec<Option<u32>>,
+    desks_behind: Vec<Option<u32>>,
+    called_desks: Vec<bool>,
+    waiting_count: usize,
 }
 
 impl Model for WaitQueues {
@@ -28,22 +28,22 @@ impl Model for WaitQueues {
     ghost Value = { Waits };
 
     ghost view = { λ q. record {
-      first = q.first.items;
-      last = q.last.items;
-      mailbox = q.mailbox.items;
-      before = q.before.items;
-      behind = q.behind.items;
-      called = q.called.items;
+      first = q.first_desks.items;
+      last = q.last_desks.items;
+      mailbox = q.mailboxes.items;
+      before = q.desks_before.items;
+      behind = q.desks_behind.items;
+      called = q.called_desks.items;
     } };
 
     ghost invariant = { λ q. AreQueues (record {
-      first = q.first.items;
-      last = q.last.items;
-      mailbox = q.mailbox.items;
-      before = q.before.items;
-      behind = q.behind.items;
-      called = q.called.items;
-    }) q.count };
+      first = q.first_desks.items;
+      last = q.last_desks.items;
+      mailbox = q.mailboxes.items;
+      before = q.desks_before.items;
+      behind = q.desks_behind.items;
+      called = q.called_desks.items;
+    }) q.waiting_count };
 }
 
 impl WaitQueues {
@@ -56,13 +56,13 @@ impl WaitQueues {
         ensures queues { IfOk result (λ q. (m : ℕ) → queue_of q m ≡ []) }
     {
         Ok(WaitQueues {
-            first: vec![in alloc; None; desks]?,
-            last: vec![in alloc; None; desks]?,
-            mailbox: vec![in alloc; None; desks]?,
-            before: vec![in alloc; None; desks]?,
-            behind: vec![in alloc; None; desks]?,
-            called: vec![in alloc; false; desks]?,
-            count: 0,
+            first_desks: vec![in alloc; None; desks]?,
+            last_desks: vec![in alloc; None; desks]?,
+            mailboxes: vec![in alloc; None; desks]?,
+            desks_before: vec![in alloc; None; desks]?,
+            desks_behind: vec![in alloc; None; desks]?,
+            called_desks: vec![in alloc; false; desks]?,
+            waiting_count: 0,
         })
     }
 
@@ -86,7 +86,7 @@ impl WaitQueues {
             queue_of self.new m ≡ without desk (queue_of self.old m) }
         ensures called { self.new.called ≡ self.old.called }
     {
-        if desk as usize >= self.mailbox.len() {
+        if desk as usize >= self.mailboxes.len() {
             return;
         }
         if self.waits_for(desk, mailbox) {
@@ -101,8 +101,8 @@ impl WaitQueues {
         ensures yes { result ≡ true → linked_at self.now.mailbox desk ≡ Some mailbox }
         ensures no { result ≡ false → linked_at self.now.mailbox desk ≢ Some mailbox }
     {
-        match linked(&self.mailbox, desk) {
-            Some(waits) => waits == mailbox,
+        match linked(&self.mailboxes, desk) {
+            Some(awaited_mailbox) => awaited_mailbox == mailbox,
             None => false,
         }
     }
@@ -116,19 +116,19 @@ impl WaitQueues {
             queue_of self.new mailbox ≡ queue_of self.old mailbox ++ desk ∷ [] }
         ensures elsewhere { (m : ℕ) → m ≢ mailbox → queue_of self.new m ≡ queue_of self.old m }
     {
-        let before = linked(&self.last, mailbox);
+        let last_desk = linked(&self.last_desks, mailbox);
         relink(
-            &mut self.behind,
-            &mut self.first,
-            before,
+            &mut self.desks_behind,
+            &mut self.first_desks,
+            last_desk,
             mailbox,
             Some(desk),
         );
-        link(&mut self.last, mailbox, Some(desk));
-        link(&mut self.before, desk, before);
-        link(&mut self.behind, desk, None);
-        link(&mut self.mailbox, desk, Some(mailbox));
-        self.count += 1;
+        link(&mut self.last_desks, mailbox, Some(desk));
+        link(&mut self.desks_before, desk, last_desk);
+        link(&mut self.desks_behind, desk, None);
+        link(&mut self.mailboxes, desk, Some(mailbox));
+        self.waiting_count += 1;
     }
 
     /// Takes a desk out of the queue in which it waits, if there is such a queue.
@@ -142,7 +142,7 @@ impl WaitQueues {
         ensures queues { (m : ℕ) → queue_of self.new m ≡ without desk (queue_of self.old m) }
         ensures called { self.new.called ≡ self.old.called }
     {
-        if self.count > 0 {
+        if self.waiting_count > 0 {
             self.leave_queue(desk);
         }
     }
@@ -157,7 +157,7 @@ impl WaitQueues {
         ensures queues { (m : ℕ) → queue_of self.new m ≡ without desk (queue_of self.old m) }
         ensures called { self.new.called ≡ self.old.called }
     {
-        let Some(mailbox) = linked(&self.mailbox, desk) else {
+        let Some(mailbox) = linked(&self.mailboxes, desk) else {
             return;
         };
         self.unlink(mailbox, desk);
@@ -169,12 +169,24 @@ impl WaitQueues {
         ensures rows { self.new ≡ left_rows self.old mailbox desk }
         ensures queues { (m : ℕ) → queue_of self.new m ≡ without desk (queue_of self.old m) }
     {
-        let before = linked(&self.before, desk);
-        let behind = linked(&self.behind, desk);
-        relink(&mut self.behind, &mut self.first, before, mailbox, behind);
-        relink(&mut self.before, &mut self.last, behind, mailbox, before);
-        link(&mut self.mailbox, desk, None);
-        self.count -= 1;
+        let desk_before = linked(&self.desks_before, desk);
+        let desk_behind = linked(&self.desks_behind, desk);
+        relink(
+            &mut self.desks_behind,
+            &mut self.first_desks,
+            desk_before,
+            mailbox,
+            desk_behind,
+        );
+        relink(
+            &mut self.desks_before,
+            &mut self.last_desks,
+            desk_behind,
+            mailbox,
+            desk_before,
+        );
+        link(&mut self.mailboxes, desk, None);
+        self.waiting_count -= 1;
     }
 
     /// Calls the first desk that waits for room in a mailbox, if there is one, and takes it out of the queue.
@@ -189,7 +201,7 @@ impl WaitQueues {
         ensures elsewhere { (m : ℕ) → m ≢ mailbox → queue_of self.new m ≡ queue_of self.old m }
         ensures none { result ≡ None → self.new ≡ self.old }
     {
-        if self.count == 0 {
+        if self.waiting_count == 0 {
             return None;
         }
         self.call_waiting(mailbox)
@@ -206,7 +218,7 @@ impl WaitQueues {
         ensures elsewhere { (m : ℕ) → m ≢ mailbox → queue_of self.new m ≡ queue_of self.old m }
         ensures none { result ≡ None → self.new ≡ self.old }
     {
-        let Some(desk) = linked(&self.first, mailbox) else {
+        let Some(desk) = linked(&self.first_desks, mailbox) else {
             return None;
         };
         self.leave(desk);
@@ -219,7 +231,7 @@ impl WaitQueues {
     fn mark_called(&mut self, desk: u32, called: bool)
         ensures { self.new ≡ record self.old { called = slice_set self.old.called desk called } }
     {
-        mark(&mut self.called, desk, called);
+        mark(&mut self.called_desks, desk, called);
     }
 
     /// Notes that a worker has taken a desk; the desk then leaves its queue. Returns whether the desk was called
@@ -232,55 +244,58 @@ impl WaitQueues {
         ensures queues { (m : ℕ) → queue_of self.new m ≡ without desk (queue_of self.old m) }
     {
         self.leave(desk);
-        let was_called = matches!(self.called.get(desk as usize), Some(true));
+        let was_called = matches!(self.called_desks.get(desk as usize), Some(true));
         self.mark_called(desk, false);
         was_called
     }
 }
 
+// The desk or mailbox to which this number's link leads.
 #[inline(always)]
-fn linked(row: &Vec<Option<u32>>, at: u32) -> Option<u32>
-    ensures { result ≡ linked_at row.now.items at }
+fn linked(links: &Vec<Option<u32>>, number: u32) -> Option<u32>
+    ensures { result ≡ linked_at links.now.items number }
 {
-    match row.get(at as usize) {
-        Some(to) => *to,
+    match links.get(number as usize) {
+        Some(target) => *target,
         None => None,
     }
 }
 
+// Lets this number's link lead to `target`.
 #[inline(always)]
-fn link(row: &mut Vec<Option<u32>>, at: u32, to: Option<u32>)
-    ensures { row.new.items ≡ slice_set row.old.items at to }
+fn link(links: &mut Vec<Option<u32>>, number: u32, target: Option<u32>)
+    ensures { links.new.items ≡ slice_set links.old.items number target }
 {
-    if (at as usize) < row.len() {
-        row[at as usize] = to;
+    if (number as usize) < links.len() {
+        links[number as usize] = target;
     }
 }
 
-// Sets the link of desk `at` to desk `to`. Without a desk `at`, `to` becomes the first or the last desk of
-// the mailbox's queue.
+// Sets the link of `desk` to `target`. Without a `desk`, `target` becomes the first or the last desk of the mailbox's
+// queue.
 #[inline(always)]
 fn relink(
     links: &mut Vec<Option<u32>>,
-    ends: &mut Vec<Option<u32>>,
-    at: Option<u32>,
+    queue_ends: &mut Vec<Option<u32>>,
+    desk: Option<u32>,
     mailbox: u32,
-    to: Option<u32>,
+    target: Option<u32>,
 )
-    ensures links { links.new.items ≡ linked_to links.old.items at to }
-    ensures ends { ends.new.items ≡ ended_at ends.old.items at mailbox to }
+    ensures links { links.new.items ≡ linked_to links.old.items desk target }
+    ensures ends { queue_ends.new.items ≡ ended_at queue_ends.old.items desk mailbox target }
 {
-    match at {
-        Some(other) => link(links, other, to),
-        None => link(ends, mailbox, to),
+    match desk {
+        Some(number) => link(links, number, target),
+        None => link(queue_ends, mailbox, target),
     }
 }
 
+// Sets this desk's flag.
 #[inline(always)]
-fn mark(row: &mut Vec<bool>, at: u32, to: bool)
-    ensures { row.new.items ≡ slice_set row.old.items at to }
+fn mark(flags: &mut Vec<bool>, desk: u32, flag: bool)
+    ensures { flags.new.items ≡ slice_set flags.old.items desk flag }
 {
-    if (at as usize) < row.len() {
-        row[at as usize] = to;
+    if (desk as usize) < flags.len() {
+        flags[desk as usize] = flag;
     }
 }

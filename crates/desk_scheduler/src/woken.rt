@@ -6,13 +6,13 @@ use arrayvec::ArrayVec;
 use std::marker::Model;
 
 /// The greatest number of desks that can be noted at once.
-const MOST: usize = 64;
+const MOST_DESKS: usize = 64;
 
 /// The noted desks with the reasons for which they were woken, in the order in which they were noted. Notes are removed
 /// only when the desks are listed.
 #[derive(Debug, Drop)]
 pub struct Woken {
-    desks: ArrayVec<(u32, Wake), MOST>,
+    desks: ArrayVec<(u32, Wake), MOST_DESKS>,
 }
 
 impl Model for Woken {

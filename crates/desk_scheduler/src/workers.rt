@@ -6,7 +6,7 @@ use std::marker::{Brand, PhantomData};
 use std::sync::ledger::{Blank, Book, Ledger, Share};
 
 /// The greatest number of workers that can begin.
-const MOST: u64 = 63;
+const MOST_WORKERS: u64 = 63;
 
 /// Into how many parts each of the three ledgers of counts is cut.
 pub const WORKER_PARTS: u64 = 64;
@@ -14,23 +14,23 @@ pub const WORKER_PARTS: u64 = 64;
 /// Names the four ledgers of a run: three count the workers, and the fourth has the ranks of the threads. Each run
 /// has four ledgers of its own.
 pub trait WorkersIdentity {
-    ghost holding: { ℕ };
+    ghost holding_ledger: { ℕ };
 
-    ghost looking: { ℕ };
+    ghost looking_ledger: { ℕ };
 
-    ghost resting: { ℕ };
+    ghost resting_ledger: { ℕ };
 
-    ghost ranks: { ℕ };
+    ghost rank_ledger: { ℕ };
 }
 
 impl WorkersIdentity for Brand {
-    ghost holding = { 0 };
+    ghost holding_ledger = { 0 };
 
-    ghost looking = { 0 };
+    ghost looking_ledger = { 0 };
 
-    ghost resting = { 0 };
+    ghost resting_ledger = { 0 };
 
-    ghost ranks = { 0 };
+    ghost rank_ledger = { 0 };
 }
 
 /// Four ledgers without a name, for the counts of one run's workers and the ranks of its threads.
@@ -62,11 +62,11 @@ impl WorkerBlanks {
     /// Opens the four ledgers of the run that the type names, before any worker begins. The result is the workers'
     /// counts, what workers need to begin, and the ranks of all threads.
     pub fn open<J: WorkersIdentity>(self) -> (Workers<J>, Crew<J>, Ranks<J>)
-        requires holding { self.holding.name ≡ J.holding }
-        requires looking { self.looking.name ≡ J.looking }
-        requires resting { self.resting.name ≡ J.resting }
-        requires ranks { self.ranks.name ≡ J.ranks }
-        ensures { (result.0.begun ≡ 0) × (result.0.without ≡ 0) }
+        requires holding { self.holding.name ≡ J.holding_ledger }
+        requires looking { self.looking.name ≡ J.looking_ledger }
+        requires resting { self.resting.name ≡ J.resting_ledger }
+        requires ranks { self.ranks.name ≡ J.rank_ledger }
+        ensures { (result.0.begun ≡ 0) × (result.0.without_desk ≡ 0) }
     {
         let WorkerBlanks {
             holding,
@@ -89,19 +89,19 @@ pub struct LookingLedger<J: WorkersIdentity>(PhantomData<J>);
 pub struct RestingLedger<J: WorkersIdentity>(PhantomData<J>);
 
 impl<J: WorkersIdentity> Ledger for HoldingLedger<J> {
-    ghost name = { J.holding };
+    ghost name = { J.holding_ledger };
 
     ghost parts = { 64 };
 }
 
 impl<J: WorkersIdentity> Ledger for LookingLedger<J> {
-    ghost name = { J.looking };
+    ghost name = { J.looking_ledger };
 
     ghost parts = { 64 };
 }
 
 impl<J: WorkersIdentity> Ledger for RestingLedger<J> {
-    ghost name = { J.resting };
+    ghost name = { J.resting_ledger };
 
     ghost parts = { 64 };
 }
@@ -110,43 +110,51 @@ impl<J: WorkersIdentity> Ledger for RestingLedger<J> {
 /// this token.
 #[derive(Drop)]
 pub struct Holding<J: WorkersIdentity> {
-    holds: Share<HoldingLedger<J>>,
-    looks: Share<LookingLedger<J>>,
-    rests: Share<RestingLedger<J>>,
-    ghost parts: { (holds.parts ≡ 1) × (looks.parts ≡ 1) × (rests.parts ≡ 1) },
-    ghost amounts: { (holds.amount ≡ 1) × (looks.amount ≡ 0) × (rests.amount ≡ 0) },
+    holding_share: Share<HoldingLedger<J>>,
+    looking_share: Share<LookingLedger<J>>,
+    resting_share: Share<RestingLedger<J>>,
+    ghost parts: { (holding_share.parts ≡ 1)
+        × (looking_share.parts ≡ 1) × (resting_share.parts ≡ 1) },
+    ghost amounts: { (holding_share.amount ≡ 1)
+        × (looking_share.amount ≡ 0) × (resting_share.amount ≡ 0) },
 }
 
 /// The token of a worker that looks for a desk.
 #[derive(Drop)]
 pub struct Looking<J: WorkersIdentity> {
-    holds: Share<HoldingLedger<J>>,
-    looks: Share<LookingLedger<J>>,
-    rests: Share<RestingLedger<J>>,
-    ghost parts: { (holds.parts ≡ 1) × (looks.parts ≡ 1) × (rests.parts ≡ 1) },
-    ghost amounts: { (holds.amount ≡ 0) × (looks.amount ≡ 1) × (rests.amount ≡ 0) },
+    holding_share: Share<HoldingLedger<J>>,
+    looking_share: Share<LookingLedger<J>>,
+    resting_share: Share<RestingLedger<J>>,
+    ghost parts: { (holding_share.parts ≡ 1)
+        × (looking_share.parts ≡ 1) × (resting_share.parts ≡ 1) },
+    ghost amounts: { (holding_share.amount ≡ 0)
+        × (looking_share.amount ≡ 1) × (resting_share.amount ≡ 0) },
 }
 
 /// The token of a worker that rests.
 #[derive(Drop)]
 pub struct Resting<J: WorkersIdentity> {
-    holds: Share<HoldingLedger<J>>,
-    looks: Share<LookingLedger<J>>,
-    rests: Share<RestingLedger<J>>,
-    ghost parts: { (holds.parts ≡ 1) × (looks.parts ≡ 1) × (rests.parts ≡ 1) },
-    ghost amounts: { (holds.amount ≡ 0) × (looks.amount ≡ 0) × (rests.amount ≡ 1) },
+    holding_share: Share<HoldingLedger<J>>,
+    looking_share: Share<LookingLedger<J>>,
+    resting_share: Share<RestingLedger<J>>,
+    ghost parts: { (holding_share.parts ≡ 1)
+        × (looking_share.parts ≡ 1) × (resting_share.parts ≡ 1) },
+    ghost amounts: { (holding_share.amount ≡ 0)
+        × (looking_share.amount ≡ 0) × (resting_share.amount ≡ 1) },
 }
 
 /// The workers that have not begun: their parts of the three ledgers. Only the thread that starts the workers has this
 /// value, so a worker that has begun can't begin again.
 #[derive(Drop)]
 pub struct Crew<J: WorkersIdentity> {
-    left: u64,
-    holds: Share<HoldingLedger<J>>,
-    looks: Share<LookingLedger<J>>,
-    rests: Share<RestingLedger<J>>,
-    ghost parts: { (holds.parts ≡ left) × (looks.parts ≡ left) × (rests.parts ≡ left) },
-    ghost amounts: { (holds.amount ≡ 0) × (looks.amount ≡ 0) × (rests.amount ≡ 0) },
+    workers_left: u64,
+    holding_share: Share<HoldingLedger<J>>,
+    looking_share: Share<LookingLedger<J>>,
+    resting_share: Share<RestingLedger<J>>,
+    ghost parts: { (holding_share.parts ≡ workers_left)
+        × (looking_share.parts ≡ workers_left) × (resting_share.parts ≡ workers_left) },
+    ghost amounts: { (holding_share.amount ≡ 0)
+        × (looking_share.amount ≡ 0) × (resting_share.amount ≡ 0) },
 }
 
 /// How many workers have begun, and how many of them have no desk. Three ledgers count the workers that have a desk,
@@ -155,12 +163,12 @@ pub struct Crew<J: WorkersIdentity> {
 #[derive(Drop)]
 pub struct Workers<J: WorkersIdentity> {
     begun: u64,
-    without: u64,
+    without_desk: u64,
     holding: Book<HoldingLedger<J>>,
     looking: Book<LookingLedger<J>>,
     resting: Book<RestingLedger<J>>,
     ghost all: { holding.total + looking.total + resting.total ≡ begun },
-    ghost without_are: { looking.total + resting.total ≡ without },
+    ghost without_are: { looking.total + resting.total ≡ without_desk },
     ghost awake: { resting.total ≤ begun - 1 },
     ghost most: { begun ≤ 63 },
 }
@@ -168,26 +176,26 @@ pub struct Workers<J: WorkersIdentity> {
 impl<J: WorkersIdentity> Workers<J> {
     /// The counts before any worker has begun, and the crew of all workers.
     pub fn none(holding: Blank, looking: Blank, resting: Blank) -> (Workers<J>, Crew<J>)
-        requires names { (holding.name ≡ J.holding)
-            × (looking.name ≡ J.looking) × (resting.name ≡ J.resting) }
+        requires names { (holding.name ≡ J.holding_ledger)
+            × (looking.name ≡ J.looking_ledger) × (resting.name ≡ J.resting_ledger) }
         requires parts { (holding.parts ≡ 64) × (looking.parts ≡ 64) × (resting.parts ≡ 64) }
-        ensures { (result.0.begun ≡ 0) × (result.0.without ≡ 0) }
+        ensures { (result.0.begun ≡ 0) × (result.0.without_desk ≡ 0) }
     {
-        let (holding, holds) = holding.open::<HoldingLedger<J>>();
-        let (looking, looks) = looking.open::<LookingLedger<J>>();
-        let (resting, rests) = resting.open::<RestingLedger<J>>();
+        let (holding, holding_share) = holding.open::<HoldingLedger<J>>();
+        let (looking, looking_share) = looking.open::<LookingLedger<J>>();
+        let (resting, resting_share) = resting.open::<RestingLedger<J>>();
         let workers = Workers {
             begun: 0,
-            without: 0,
+            without_desk: 0,
             holding,
             looking,
             resting,
         };
         let crew = Crew {
-            left: WORKER_PARTS,
-            holds,
-            looks,
-            rests,
+            workers_left: WORKER_PARTS,
+            holding_share,
+            looking_share,
+            resting_share,
         };
         (workers, crew)
     }
@@ -196,52 +204,52 @@ impl<J: WorkersIdentity> Workers<J> {
     /// or if the crew has no worker left.
     pub fn begins(&mut self, crew: &mut Crew<J>) -> Option<Looking<J>>
         ensures begun { IfSome result (λ _. self.new.begun ≡ self.old.begun + 1) }
-        ensures crew { IfSome result (λ _. crew.new.left + 1 ≡ crew.old.left) }
+        ensures crew { IfSome result (λ _. crew.new.workers_left + 1 ≡ crew.old.workers_left) }
         ensures looks { IfSome result (λ _. self.new.looking.total ≡ self.old.looking.total + 1) }
         ensures others { (self.new.holding.total ≡ self.old.holding.total)
             × (self.new.resting.total ≡ self.old.resting.total) }
-        ensures none { IfNone result (((63 ≤ self.old.begun) ⊎ (crew.old.left ≡ 0))
+        ensures none { IfNone result (((63 ≤ self.old.begun) ⊎ (crew.old.workers_left ≡ 0))
             × (self.new ≡ self.old) × (crew.new ≡ crew.old)) }
     {
-        if self.begun >= MOST || crew.left == 0 {
+        if self.begun >= MOST_WORKERS || crew.workers_left == 0 {
             return None;
         }
-        Some(self.cut(crew))
+        Some(self.cut_shares(crew))
     }
 
     // Cuts a part of each ledger for one more worker of the crew, which looks for a desk.
-    fn cut(&mut self, crew: &mut Crew<J>) -> Looking<J>
+    fn cut_shares(&mut self, crew: &mut Crew<J>) -> Looking<J>
         requires begun { self.old.begun < 63 }
-        requires left { crew.old.left ≢ 0 }
+        requires left { crew.old.workers_left ≢ 0 }
         ensures begun { self.new.begun ≡ self.old.begun + 1 }
-        ensures crew { crew.new.left + 1 ≡ crew.old.left }
+        ensures crew { crew.new.workers_left + 1 ≡ crew.old.workers_left }
         ensures looks { self.new.looking.total ≡ self.old.looking.total + 1 }
         ensures others { (self.new.holding.total ≡ self.old.holding.total)
             × (self.new.resting.total ≡ self.old.resting.total) }
     {
         let Workers {
             begun,
-            without,
+            without_desk,
             looking,
             ..
         } = self;
         let Crew {
-            left,
-            holds,
-            looks,
-            rests,
+            workers_left,
+            holding_share,
+            looking_share,
+            resting_share,
         } = crew;
-        *left -= 1;
-        let held = holds.split_off(1, 0);
-        let mut looked = looks.split_off(1, 0);
-        let rested = rests.split_off(1, 0);
-        looking.add(&mut looked, 1);
+        *workers_left -= 1;
+        let worker_holding = holding_share.split_off(1, 0);
+        let mut worker_looking = looking_share.split_off(1, 0);
+        let worker_resting = resting_share.split_off(1, 0);
+        looking.add(&mut worker_looking, 1);
         *begun += 1;
-        *without += 1;
+        *without_desk += 1;
         Looking {
-            holds: held,
-            looks: looked,
-            rests: rested,
+            holding_share: worker_holding,
+            looking_share: worker_looking,
+            resting_share: worker_resting,
         }
     }
 
@@ -253,24 +261,24 @@ impl<J: WorkersIdentity> Workers<J> {
             × (self.new.begun ≡ self.old.begun) }
     {
         let Workers {
-            without,
+            without_desk,
             holding,
             looking,
             ..
         } = self;
         let Looking {
-            mut holds,
-            mut looks,
-            rests,
+            mut holding_share,
+            mut looking_share,
+            resting_share,
         } = token;
-        looking.audit(&mut looks);
-        looking.sub(&mut looks, 1);
-        holding.add(&mut holds, 1);
-        *without -= 1;
+        looking.audit(&mut looking_share);
+        looking.sub(&mut looking_share, 1);
+        holding.add(&mut holding_share, 1);
+        *without_desk -= 1;
         Holding {
-            holds,
-            looks,
-            rests,
+            holding_share,
+            looking_share,
+            resting_share,
         }
     }
 
@@ -282,24 +290,24 @@ impl<J: WorkersIdentity> Workers<J> {
             × (self.new.begun ≡ self.old.begun) }
     {
         let Workers {
-            without,
+            without_desk,
             holding,
             looking,
             ..
         } = self;
         let Holding {
-            mut holds,
-            mut looks,
-            rests,
+            mut holding_share,
+            mut looking_share,
+            resting_share,
         } = token;
-        holding.audit(&mut holds);
-        holding.sub(&mut holds, 1);
-        looking.add(&mut looks, 1);
-        *without += 1;
+        holding.audit(&mut holding_share);
+        holding.sub(&mut holding_share, 1);
+        looking.add(&mut looking_share, 1);
+        *without_desk += 1;
         Looking {
-            holds,
-            looks,
-            rests,
+            holding_share,
+            looking_share,
+            resting_share,
         }
     }
 
@@ -313,15 +321,15 @@ impl<J: WorkersIdentity> Workers<J> {
         ensures awake { IfOk result (λ _. self.new.resting.total < self.new.begun) }
         ensures alone { IfErr result (λ _. (self.old.holding.total ≡ 0) × (self.new ≡ self.old)) }
     {
-        if self.without >= self.begun {
+        if self.without_desk >= self.begun {
             return Err(token);
         }
-        Ok(self.lies_down(token))
+        Ok(self.begins_rest(token))
     }
 
     // Lets a worker that looks for a desk rest. Some other worker has a desk.
-    fn lies_down(&mut self, token: Looking<J>) -> Resting<J>
-        requires { self.old.without < self.old.begun }
+    fn begins_rest(&mut self, token: Looking<J>) -> Resting<J>
+        requires { self.old.without_desk < self.old.begun }
         ensures rests { self.new.resting.total ≡ self.old.resting.total + 1 }
         ensures looking { self.new.looking.total + 1 ≡ self.old.looking.total }
         ensures holding { self.new.holding.total ≡ self.old.holding.total }
@@ -333,17 +341,17 @@ impl<J: WorkersIdentity> Workers<J> {
             ..
         } = self;
         let Looking {
-            holds,
-            mut looks,
-            mut rests,
+            holding_share,
+            mut looking_share,
+            mut resting_share,
         } = token;
-        looking.audit(&mut looks);
-        looking.sub(&mut looks, 1);
-        resting.add(&mut rests, 1);
+        looking.audit(&mut looking_share);
+        looking.sub(&mut looking_share, 1);
+        resting.add(&mut resting_share, 1);
         Resting {
-            holds,
-            looks,
-            rests,
+            holding_share,
+            looking_share,
+            resting_share,
         }
     }
 
@@ -360,17 +368,17 @@ impl<J: WorkersIdentity> Workers<J> {
             ..
         } = self;
         let Resting {
-            holds,
-            mut looks,
-            mut rests,
+            holding_share,
+            mut looking_share,
+            mut resting_share,
         } = token;
-        resting.audit(&mut rests);
-        resting.sub(&mut rests, 1);
-        looking.add(&mut looks, 1);
+        resting.audit(&mut resting_share);
+        resting.sub(&mut resting_share, 1);
+        looking.add(&mut looking_share, 1);
         Looking {
-            holds,
-            looks,
-            rests,
+            holding_share,
+            looking_share,
+            resting_share,
         }
     }
 }

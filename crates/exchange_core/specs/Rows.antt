@@ -60,12 +60,12 @@ answer_of note = (note / 4, kind_of (note % 4))
 -- the state of a programme's desk that the programme's seat and the row of notes stand for
 abbrev pub shown_programme : List ℕ → ProgrammeSeat → ProgrammeLeft
 shown_programme notes seat = record {
-  offered = seat.offered;
-  out = seat.out;
+  offered = seat.offers_made;
+  out = seat.offers_out;
   waiting = map answer_of (waiting_in notes seat.part);
   room = seat.part.room;
   places = seat.places;
-  listed = seat.listed;
+  listed = seat.list_length;
 }
 
 -- where the part of a programme's seat starts, and for how many notes the part has room

@@ -15,9 +15,9 @@ impl Core {
         requires { IsCoreOf inst.now self.now }
         ensures { result ≡ pending_left inst.now self.now }
     {
-        let found = self.pending_at_residents(inst);
-        if found.is_some() {
-            return found;
+        let pending = self.pending_at_residents(inst);
+        if pending.is_some() {
+            return pending;
         }
         self.pending_at_programmes(inst)
     }
@@ -43,9 +43,9 @@ impl Core {
             return None;
         }
         for r in 0..inst.residents() {
-            let found = self.pending_resident(ResidentNo(r));
-            if found.is_some() {
-                return found;
+            let pending = self.pending_resident(ResidentNo(r));
+            if pending.is_some() {
+                return pending;
             }
         }
         None
@@ -62,9 +62,9 @@ impl Core {
             return None;
         }
         for p in 0..inst.programmes() {
-            let found = self.pending_programme(ProgrammeNo(p));
-            if found.is_some() {
-                return found;
+            let pending = self.pending_programme(ProgrammeNo(p));
+            if pending.is_some() {
+                return pending;
             }
         }
         None

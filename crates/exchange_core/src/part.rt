@@ -83,25 +83,25 @@ impl Part {
         if self.len == 0 {
             return;
         }
-        let from_front = self.room - self.front;
-        self.front = if from_front > 1 {
+        let entries_from_front = self.room - self.front;
+        self.front = if entries_from_front > 1 {
             self.front + 1
         } else {
-            1 - from_front
+            1 - entries_from_front
         };
         self.len -= 1;
     }
 }
 
-/// How many messages a mailbox has room for. `most` is the greatest number of messages that can be sent to the
-/// mailbox.
-pub(crate) fn room(cap: Capacity, most: usize) -> u32
-    requires { most ≤ 2 * MAX_PAIRS }
-    ensures { result ≡ room_within cap most }
+/// How many messages a mailbox has room for. `most_messages` is the greatest number of messages that can be sent to
+/// the mailbox.
+pub(crate) fn room(cap: Capacity, most_messages: usize) -> u32
+    requires { most_messages ≤ 2 * MAX_PAIRS }
+    ensures { result ≡ room_within cap most_messages }
 {
     let room = match cap {
-        Capacity::Full => most.max(1),
-        Capacity::Each(n) => n as usize,
+        Capacity::Full => most_messages.max(1),
+        Capacity::Each(messages) => messages as usize,
     };
-    room.min(most) as u32
+    room.min(most_messages) as u32
 }

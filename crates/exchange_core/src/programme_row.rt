@@ -18,19 +18,20 @@ use std::marker::Model;
 #[derive(Clone, Copy)]
 pub(crate) struct ProgrammeSeat {
     part: Part,
-    offered: u32,
-    out: u32,
+    offers_made: u32,
+    offers_out: u32,
     places: u32,
-    listed: u32,
+    list_length: u32,
 }
 
 impl ProgrammeSeat {
     /// Whether the programme has a wish: a free place and a next resident on the list.
     #[inline(always)]
     fn has_wish(self) -> bool
-        ensures { result ≡ (nat_lt self.out self.places && nat_lt self.offered self.listed) }
+        ensures { result ≡ (nat_lt self.offers_out self.places
+            && nat_lt self.offers_made self.list_length) }
     {
-        self.out < self.places && self.offered < self.listed
+        self.offers_out < self.places && self.offers_made < self.list_length
     }
 }
 
@@ -40,8 +41,8 @@ impl ProgrammeSeat {
 pub(crate) struct ProgrammeRow {
     seats: Vec<ProgrammeSeat>,
     notes: Vec<u32>,
-    with_answers: usize,
-    with_wish: usize,
+    programmes_with_answers: usize,
+    programmes_with_wish: usize,
 }
 
 impl Model for ProgrammeRow {
@@ -60,9 +61,9 @@ impl Model for ProgrammeRow {
       laid : AreLaid (map programme_span d.seats.items) (length d.notes.items);
       rings : All IsProgrammeRing d.seats.items;
       few : length d.seats.items < 2 ^ 32;
-      answers_counted : d.with_answers
+      answers_counted : d.programmes_with_answers
           ≡ count_by has_answers (map (shown_programme d.notes.items) d.seats.items);
-      wishes_counted : d.with_wish
+      wishes_counted : d.programmes_with_wish
           ≡ count_by has_wish (map (shown_programme d.notes.items) d.seats.items);
     } };
 }
@@ -76,29 +77,29 @@ impl ProgrammeRow {
     ) -> Result<ProgrammeRow, AllocError>
         ensures { IfOk result (λ desks. desks ≡ opened_programmes inst.now cap) }
     {
-        let count = inst.programmes();
-        let mut seats = Vec::with_capacity(alloc, count as usize)?;
-        let mut total = 0;
-        let mut with_wish = 0;
-        for p in 0..count {
-            let listed = inst.list_of_programme(ProgrammeNo(p)).len();
-            let room = room(cap, 2 * listed);
+        let programme_count = inst.programmes();
+        let mut seats = Vec::with_capacity(alloc, programme_count as usize)?;
+        let mut total_room = 0;
+        let mut programmes_with_wish = 0;
+        for p in 0..programme_count {
+            let list_length = inst.list_of_programme(ProgrammeNo(p)).len();
+            let room = room(cap, 2 * list_length);
             let seat = ProgrammeSeat {
-                part: Part::open(total, room),
-                offered: 0,
-                out: 0,
+                part: Part::open(total_room, room),
+                offers_made: 0,
+                offers_out: 0,
                 places: inst.quota(ProgrammeNo(p)),
-                listed: listed as u32,
+                list_length: list_length as u32,
             };
-            with_wish = recounted(with_wish, false, seat.has_wish());
+            programmes_with_wish = recounted(programmes_with_wish, false, seat.has_wish());
             seats.push(seat)?;
-            total += room as usize;
+            total_room += room as usize;
         }
         Ok(ProgrammeRow {
             seats,
-            notes: vec![in alloc; 0; total]?,
-            with_answers: 0,
-            with_wish,
+            notes: vec![in alloc; 0; total_room]?,
+            programmes_with_answers: 0,
+            programmes_with_wish,
         })
     }
 
@@ -106,7 +107,7 @@ impl ProgrammeRow {
     pub(crate) fn are_content(&self) -> bool
         ensures { result ≡ true → All IsContent self.now }
     {
-        self.with_answers == 0 && self.with_wish == 0
+        self.programmes_with_answers == 0 && self.programmes_with_wish == 0
     }
 
     /// Whether the programme's mailbox is full.
@@ -146,7 +147,7 @@ impl ProgrammeRow {
         requires { programme < length self.now }
         ensures { result ≡ (seat_of_programme self.now programme).offered }
     {
-        self.seats[programme.0 as usize].offered
+        self.seats[programme.0 as usize].offers_made
     }
 
     #[inline(always)]
@@ -156,7 +157,7 @@ impl ProgrammeRow {
             (seat_of_programme self.now programme).places }
     {
         let seat = &self.seats[programme.0 as usize];
-        seat.out < seat.places
+        seat.offers_out < seat.places
     }
 
     /// Whether the programme has a wish: a free place and a next resident on the list.
@@ -179,11 +180,11 @@ impl ProgrammeRow {
             ≡ slice_set self.old programme (made_offer (seat_of_programme self.old programme)) }
     {
         let seat = &mut self.seats[programme.0 as usize];
-        let wished = seat.has_wish();
-        seat.offered += 1;
-        seat.out = one_more(seat.out, seat.places);
-        let wishes = seat.has_wish();
-        self.with_wish = recounted(self.with_wish, wished, wishes);
+        let had_wish = seat.has_wish();
+        seat.offers_made += 1;
+        seat.offers_out = one_more(seat.offers_out, seat.places);
+        let still_has_wish = seat.has_wish();
+        self.programmes_with_wish = recounted(self.programmes_with_wish, had_wish, still_has_wish);
     }
 
     #[inline(always)]
@@ -196,9 +197,9 @@ impl ProgrammeRow {
             (sent_answer (seat_of_programme self.old programme) (resident, kind)) }
     {
         let seat = &mut self.seats[programme.0 as usize];
-        let waited = seat.part.len > 0;
+        let had_answers = seat.part.len > 0;
         seat.part.push(&mut self.notes, note_of(resident, kind));
-        self.with_answers = recounted(self.with_answers, waited, true);
+        self.programmes_with_answers = recounted(self.programmes_with_answers, had_answers, true);
     }
 
     /// Removes the front answer from the programme's mailbox: the answer of this resident, of this kind. A rejection
@@ -210,32 +211,36 @@ impl ProgrammeRow {
             (heard_answer (seat_of_programme self.old programme) (resident, kind)) }
     {
         let seat = &mut self.seats[programme.0 as usize];
-        let (waited, wished) = (seat.part.len > 0, seat.has_wish());
+        let (had_answers, had_wish) = (seat.part.len > 0, seat.has_wish());
         seat.part.pop();
-        seat.out = out_after(seat.out, resident, kind);
-        let (waits, wishes) = (seat.part.len > 0, seat.has_wish());
-        self.with_answers = recounted(self.with_answers, waited, waits);
-        self.with_wish = recounted(self.with_wish, wished, wishes);
+        seat.offers_out = out_after(seat.offers_out, resident, kind);
+        let (still_has_answers, still_has_wish) = (seat.part.len > 0, seat.has_wish());
+        self.programmes_with_answers = recounted(
+            self.programmes_with_answers,
+            had_answers,
+            still_has_answers,
+        );
+        self.programmes_with_wish = recounted(self.programmes_with_wish, had_wish, still_has_wish);
     }
 }
 
 /// The number of offers out after the next offer is made. The programme has a free place.
 #[inline(always)]
-fn one_more(out: u32, places: u32) -> u32
-    requires { out < places }
-    ensures { result ≡ out + 1 }
+fn one_more(offers_out: u32, places: u32) -> u32
+    requires { offers_out < places }
+    ensures { result ≡ offers_out + 1 }
 {
-    out + 1
+    offers_out + 1
 }
 
 /// The number of offers out after this answer is heard. A rejection frees a place.
 #[inline(always)]
-fn out_after(out: u32, _resident: ResidentNo, kind: AnswerKind) -> u32
-    ensures { result ≡ out - (if is_rejection (_resident, kind) then 1 else 0) }
+fn out_after(offers_out: u32, _resident: ResidentNo, kind: AnswerKind) -> u32
+    ensures { result ≡ offers_out - (if is_rejection (_resident, kind) then 1 else 0) }
 {
     match kind {
-        AnswerKind::Hold => out,
-        AnswerKind::Decline | AnswerKind::Release => out.saturating_sub(1),
+        AnswerKind::Hold => offers_out,
+        AnswerKind::Decline | AnswerKind::Release => offers_out.saturating_sub(1),
     }
 }
 
@@ -244,12 +249,12 @@ fn note_of(resident: ResidentNo, kind: AnswerKind) -> u32
     requires { resident < 2 ^ 30 }
     ensures { result ≡ note_of (resident, kind) }
 {
-    let code = match kind {
+    let kind_code = match kind {
         AnswerKind::Hold => 0,
         AnswerKind::Decline => 1,
         AnswerKind::Release => 2,
     };
-    resident.0 * 4 + code
+    resident.0 * 4 + kind_code
 }
 
 #[inline(always)]

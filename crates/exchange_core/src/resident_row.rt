@@ -33,8 +33,8 @@ pub(crate) struct ResidentSeat {
 pub(crate) struct ResidentRow {
     seats: Vec<ResidentSeat>,
     notes: Vec<u32>,
-    with_offers: usize,
-    with_due: usize,
+    residents_with_offers: usize,
+    residents_with_due: usize,
 }
 
 impl Model for ResidentRow {
@@ -53,9 +53,9 @@ impl Model for ResidentRow {
       laid : AreLaid (map resident_span d.seats.items) (length d.notes.items);
       rings : All IsResidentRing d.seats.items;
       few : length d.seats.items < 2 ^ 32;
-      offers_counted : d.with_offers
+      offers_counted : d.residents_with_offers
           ≡ count_by has_offers (map (shown_resident d.notes.items) d.seats.items);
-      due_counted : d.with_due
+      due_counted : d.residents_with_due
           ≡ count_by has_due (map (shown_resident d.notes.items) d.seats.items);
     } };
 }
@@ -69,26 +69,26 @@ impl ResidentRow {
     ) -> Result<ResidentRow, AllocError>
         ensures { IfOk result (λ desks. desks ≡ opened_residents inst.now cap) }
     {
-        let count = inst.residents();
-        let mut seats = Vec::with_capacity(alloc, count as usize)?;
-        let mut total = 0;
-        for r in 0..count {
+        let resident_count = inst.residents();
+        let mut seats = Vec::with_capacity(alloc, resident_count as usize)?;
+        let mut total_room = 0;
+        for r in 0..resident_count {
             let room = room(cap, inst.list_of_resident(ResidentNo(r)).len());
             seats.push(ResidentSeat {
-                part: Part::open(total, room),
+                part: Part::open(total_room, room),
                 first_due: None,
                 second_due: None,
                 held: None,
                 taken_rank: 0,
                 held_rank: 0,
             })?;
-            total += room as usize;
+            total_room += room as usize;
         }
         Ok(ResidentRow {
             seats,
-            notes: vec![in alloc; 0; total]?,
-            with_offers: 0,
-            with_due: 0,
+            notes: vec![in alloc; 0; total_room]?,
+            residents_with_offers: 0,
+            residents_with_due: 0,
         })
     }
 
@@ -96,7 +96,7 @@ impl ResidentRow {
     pub(crate) fn are_quiet(&self) -> bool
         ensures { result ≡ true → All IsQuiet self.now }
     {
-        self.with_offers == 0 && self.with_due == 0
+        self.residents_with_offers == 0 && self.residents_with_due == 0
     }
 
     /// Whether the resident's mailbox is full.
@@ -154,10 +154,10 @@ impl ResidentRow {
         requires { resident < length self.now }
     {
         let part = self.seats[resident.0 as usize].part;
-        let held = self.seats[resident.0 as usize].held_rank;
+        let held_rank = self.seats[resident.0 as usize].held_rank;
         match part.first(&self.notes) {
-            Some(note) => (rank_of(note), held),
-            None => (0, held),
+            Some(note) => (rank_of(note), held_rank),
+            None => (0, held_rank),
         }
     }
 
@@ -180,10 +180,10 @@ impl ResidentRow {
             (sent_offer (seat_of_resident self.old resident) programme) }
     {
         let seat = &mut self.seats[resident.0 as usize];
-        let waited = seat.part.len > 0;
+        let had_offers = seat.part.len > 0;
         seat.part
             .push(&mut self.notes, note_of_offer(programme, rank));
-        self.with_offers = recounted(self.with_offers, waited, true);
+        self.residents_with_offers = recounted(self.residents_with_offers, had_offers, true);
     }
 
     /// Removes the front offer from the resident's mailbox: the offer of this programme, with this guess of its rank.
@@ -202,15 +202,19 @@ impl ResidentRow {
             (took_offer (seat_of_resident self.old resident) better programme) }
     {
         let seat = &mut self.seats[resident.0 as usize];
-        let due = called_for(better, seat.held, programme);
-        let waited = seat.part.len > 0;
+        let due_answers = called_for(better, seat.held, programme);
+        let had_offers = seat.part.len > 0;
         seat.part.pop();
-        let waits = seat.part.len > 0;
-        seat.first_due = due.0;
-        seat.second_due = due.1;
+        let still_has_offers = seat.part.len > 0;
+        seat.first_due = due_answers.0;
+        seat.second_due = due_answers.1;
         seat.taken_rank = rank;
-        self.with_offers = recounted(self.with_offers, waited, waits);
-        self.with_due = recounted(self.with_due, false, true);
+        self.residents_with_offers = recounted(
+            self.residents_with_offers,
+            had_offers,
+            still_has_offers,
+        );
+        self.residents_with_due = recounted(self.residents_with_due, false, true);
     }
 
     /// Removes the first due answer, which goes to this programme and is of this kind.
@@ -221,13 +225,13 @@ impl ResidentRow {
             (gave_answer (seat_of_resident self.old resident) (programme, kind)) }
     {
         let seat = &mut self.seats[resident.0 as usize];
-        let owed = seat.first_due.is_some();
+        let owed_answer = seat.first_due.is_some();
         seat.first_due = due_next(seat.first_due, seat.second_due);
-        let owes = seat.first_due.is_some();
+        let still_owes = seat.first_due.is_some();
         seat.second_due = None;
         seat.held = held_after(seat.held, programme, kind);
         seat.held_rank = rank_after(seat.held_rank, seat.taken_rank, kind);
-        self.with_due = recounted(self.with_due, owed, owes);
+        self.residents_with_due = recounted(self.residents_with_due, owed_answer, still_owes);
     }
 }
 
@@ -262,12 +266,12 @@ fn rank_of(note: u32) -> u32
 /// The guessed rank of the held offer after an answer of this kind: that of the offer taken last if the answer is a
 /// hold, else unchanged.
 #[inline(always)]
-fn rank_after(held: u32, taken: u32, kind: AnswerKind) -> u32
-    ensures { result ≡ rank_after held taken kind }
+fn rank_after(held_rank: u32, taken_rank: u32, kind: AnswerKind) -> u32
+    ensures { result ≡ rank_after held_rank taken_rank kind }
 {
     match kind {
-        AnswerKind::Hold => taken,
-        AnswerKind::Decline | AnswerKind::Release => held,
+        AnswerKind::Hold => taken_rank,
+        AnswerKind::Decline | AnswerKind::Release => held_rank,
     }
 }
 
@@ -309,13 +313,13 @@ fn held_after(
 #[tactic(auto, using(crate::proofs::Seats::due_after_first))]
 #[inline(always)]
 fn due_next(
-    first: Option<(ProgrammeNo, AnswerKind)>,
-    second: Option<(ProgrammeNo, AnswerKind)>,
+    first_due: Option<(ProgrammeNo, AnswerKind)>,
+    second_due: Option<(ProgrammeNo, AnswerKind)>,
 ) -> Option<(ProgrammeNo, AnswerKind)>
-    ensures { due_of result None ≡ drop 1 (due_of first second) }
+    ensures { due_of result None ≡ drop 1 (due_of first_due second_due) }
 {
-    match first {
-        Some(_) => second,
+    match first_due {
+        Some(_) => second_due,
         None => None,
     }
 }

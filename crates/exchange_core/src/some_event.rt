@@ -25,14 +25,14 @@ impl Core {
         if self.is_at_rest(inst) {
             return Some(Event::Close);
         }
-        let recent = self.recent_desks(inst);
-        if let Some(event) = self.event_at(inst, recent) {
+        let recent_desks = self.recent_desks(inst);
+        if let Some(event) = self.event_at(inst, recent_desks) {
             return Some(event);
         }
-        if let Some(event) = self.event_of_residents(inst, recent) {
+        if let Some(event) = self.event_of_residents(inst, recent_desks) {
             return Some(event);
         }
-        if let Some(event) = self.event_of_programmes(inst, recent) {
+        if let Some(event) = self.event_of_programmes(inst, recent_desks) {
             return Some(event);
         }
         Some(Event::Close)
@@ -42,7 +42,7 @@ impl Core {
     fn recent_desks(&self, inst: &Instance) -> Option<(u32, u32)>
         ensures { IfSome result (AreMembers inst.now) }
     {
-        let (programme, resident) = self.recent?;
+        let (programme, resident) = self.recent_pair?;
         if is_strange(inst, programme, resident) {
             return None;
         }
@@ -233,21 +233,21 @@ impl Core {
 }
 
 /// Whether `desks` has two desks and one of them is this resident's.
-fn is_looked_at_resident(desks: Option<(u32, u32)>, r: u32) -> bool
-    ensures { result ≡ true → IfSome desks (λ d. d.1 ≡ r) × (desks ≢ None) }
+fn is_looked_at_resident(desks: Option<(u32, u32)>, number: u32) -> bool
+    ensures { result ≡ true → IfSome desks (λ d. d.1 ≡ number) × (desks ≢ None) }
 {
     match desks {
-        Some((_, resident)) => resident == r,
+        Some((_, resident)) => resident == number,
         None => false,
     }
 }
 
 /// Whether `desks` has two desks and one of them is this programme's.
-fn is_looked_at_programme(desks: Option<(u32, u32)>, p: u32) -> bool
-    ensures { result ≡ true → IfSome desks (λ d. d.0 ≡ p) × (desks ≢ None) }
+fn is_looked_at_programme(desks: Option<(u32, u32)>, number: u32) -> bool
+    ensures { result ≡ true → IfSome desks (λ d. d.0 ≡ number) × (desks ≢ None) }
 {
     match desks {
-        Some((programme, _)) => programme == p,
+        Some((programme, _)) => programme == number,
         None => false,
     }
 }

@@ -98,8 +98,8 @@ impl<M: Mailboxes> Reserve<M> {
         join_all(tallies);
         residents.fill(resident_desks);
         programmes.fill(programme_desks);
-        let counts = (inst.residents(), inst.programmes());
-        match compare(residents, programmes, ledger.journal(), counts) {
+        let desk_counts = (inst.residents(), inst.programmes());
+        match compare(residents, programmes, ledger.journal(), desk_counts) {
             Ok(agents) => Ok(done_of(inst, ledger, ending, agents, assignment, entered)),
             Err(desk) => Err(RunFault::Torn(desk)),
         }
@@ -110,9 +110,9 @@ impl<M: Mailboxes> Reserve<M> {
 // worker entered is counted from the ledger's own list of workers.
 fn join_all<J: ExchangeIdentity>(tallies: Vec<Tally<J>>) {
     let mut tallies = tallies.into_iter();
-    if let Some(mut whole) = tallies.next() {
+    if let Some(mut whole_tally) = tallies.next() {
         for tally in tallies {
-            whole.join(tally);
+            whole_tally.join(tally);
         }
     }
 }

@@ -48,7 +48,7 @@ where
 {
     let workers = tallies.len();
     let handles = Vec::with_capacity(alloc, workers)?;
-    let mut back = Vec::with_capacity(alloc, workers)?;
+    let mut ended_tallies = Vec::with_capacity(alloc, workers)?;
     let started = thread::scope(
         thread::scope_env(),
         rt,
@@ -62,9 +62,9 @@ where
         return Err(RunFault::Thread);
     };
     for handle in handles {
-        back.push(handle.join(rt))?;
+        ended_tallies.push(handle.join(rt))?;
     }
-    Ok(back)
+    Ok(ended_tallies)
 }
 
 // What the thread that starts the workers has: the workers that have not begun, the ranks that no thread has yet, and a
@@ -73,16 +73,20 @@ where
 struct Starter<J: WorkersIdentity> {
     crew: Crew<J>,
     ranks: Ranks<J>,
-    inner: InnerRank<J>,
-    ghost idle: { inner.own.parts ≡ 1 },
+    inner_rank: InnerRank<J>,
+    ghost idle: { inner_rank.share.parts ≡ 1 },
 }
 
 impl<J: WorkersIdentity> Starter<J> {
     // Takes ranks for the starting thread, which never takes a desk's lock. The result is none if there are no ranks.
     fn new(crew: Crew<J>, ranks: Ranks<J>) -> Option<Starter<J>> {
         let mut ranks = ranks;
-        let (_, inner) = ranks_of(ranks.of_thread()?);
-        Some(Starter { crew, ranks, inner })
+        let (_, inner_rank) = ranks_of(ranks.of_thread()?);
+        Some(Starter {
+            crew,
+            ranks,
+            inner_rank,
+        })
     }
 }
 
@@ -113,11 +117,20 @@ where
 {
     let mut starter = Starter::new(crew, ranks)?;
     let mut handles = handles;
-    let mut number = 0;
+    let mut worker_number = 0;
     for tally in tallies {
-        let handle = start_one(scope, rt, inst, shared, gate, number, tally, &mut starter)?;
+        let handle = start_one(
+            scope,
+            rt,
+            inst,
+            shared,
+            gate,
+            worker_number,
+            tally,
+            &mut starter,
+        )?;
         handles.push_reserved(handle);
-        number = number.saturating_add(1);
+        worker_number = worker_number.saturating_add(1);
     }
     Some(handles)
 }
@@ -129,7 +142,7 @@ fn start_one<'s, 'f, E, J, M, G, R>(
     inst: &'s Instance,
     shared: &'s SharedState<'f, J, M, G>,
     gate: &'s G,
-    number: usize,
+    worker_number: usize,
     tally: Tally<J>,
     starter: &mut Starter<J>,
 ) -> Option<JoinHandle<Tally<J>>>
@@ -144,9 +157,9 @@ where
     R: Wait + Sync,
     requires { inst.now ≡ J.inst }
 {
-    let begun = shared.begin_one(rt, &mut starter.inner, &mut starter.crew);
-    let (Some(own), Some(parts)) = (begun, starter.ranks.of_thread()) else {
-        shared.fail(rt, &mut starter.inner, Trouble::Thread);
+    let begun_worker = shared.begin_one(rt, &mut starter.inner_rank, &mut starter.crew);
+    let (Some(looking), Some(share)) = (begun_worker, starter.ranks.of_thread()) else {
+        shared.fail(rt, &mut starter.inner_rank, Trouble::Thread);
         return None;
     };
     let thread = Builder::new().stack_size(STACK_BYTES);
@@ -154,18 +167,18 @@ where
         scope,
         move || -> Tally<J>
             requires instance { inst.now ≡ J.inst }
-            requires parts { (parts.parts ≡ 2) × (parts.amount ≡ 0) }
+            requires parts { (share.parts ≡ 2) × (share.amount ≡ 0) }
         {
-            let (desk, inner) = ranks_of(parts);
-            let worker = Worker::new(rt, inst, gate, shared, number, tally, inner);
-            let (tally, _own) = worker.work(desk, own);
+            let (desk_rank, inner_rank) = ranks_of(share);
+            let worker = Worker::new(rt, inst, gate, shared, worker_number, tally, inner_rank);
+            let (tally, _looking) = worker.work(desk_rank, looking);
             tally
         },
     );
     match spawned {
         Ok(handle) => Some(handle),
         Err(_) => {
-            shared.fail(rt, &mut starter.inner, Trouble::Thread);
+            shared.fail(rt, &mut starter.inner_rank, Trouble::Thread);
             None
         }
     }

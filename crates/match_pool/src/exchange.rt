@@ -37,10 +37,13 @@ impl<J: ExchangeIdentity, M: Mailboxes> Model for Exchange<J, M> {
 /// What happened when a worker tried to enter an event.
 #[derive(Clone, Copy, Debug)]
 pub(crate) enum Entry {
-    /// The event was entered. `more` says whether more messages wait in the mailbox of the event's own desk; after a
-    /// take no worker reads it, since an answer is due before the next take. `woken` is a desk that now has work:
-    /// after a put, the receiver whose mailbox was empty; after a receipt, the sender who waited for room.
-    Made { more: bool, woken: Option<u32> },
+    /// The event was entered. `more_mail` says whether more messages wait in the mailbox of the event's own desk; after
+    /// a take no worker reads it, since an answer is due before the next take. `woken_desk` is a desk that now has
+    /// work: after a put, the receiver whose mailbox was empty; after a receipt, the sender who waited for room.
+    Made {
+        more_mail: bool,
+        woken_desk: Option<u32>,
+    },
     /// The mailbox was full, and the desk waits for room.
     Later,
     /// The mailbox said that it is full, although it has room by the journal.
@@ -128,9 +131,9 @@ impl<J: ExchangeIdentity, M: Mailboxes> Exchange<J, M> {
         resident: ResidentNo,
     ) -> Entry
         requires { inst.now ≡ J.inst }
-        ensures more { IfMade result (λ more woken.
-            more ≡ answers_wait programme self.new.ledger.journal) }
-        ensures waits_not { IfMade result (λ more woken. linked_at self.new.waits.mailbox
+        ensures more { IfMade result (λ more_mail woken_desk.
+            more_mail ≡ answers_wait programme self.new.ledger.journal) }
+        ensures waits_not { IfMade result (λ more_mail woken_desk. linked_at self.new.waits.mailbox
             (number_of_programme inst.now programme) ≡ None) }
     {
         let sender = desk_of_programme(inst, programme);
@@ -141,8 +144,8 @@ impl<J: ExchangeIdentity, M: Mailboxes> Exchange<J, M> {
             Ok(mail) => {
                 self.wait_queues.leave(sender);
                 Entry::Made {
-                    more: mail.sender_has_more,
-                    woken: mail.receiver_was_empty.then_some(resident.0),
+                    more_mail: mail.sender_has_more,
+                    woken_desk: mail.receiver_was_empty.then_some(resident.0),
                 }
             }
             Err(refused) => self.put_refused(refused, resident.0, sender),
@@ -159,9 +162,9 @@ impl<J: ExchangeIdentity, M: Mailboxes> Exchange<J, M> {
         kind: AnswerKind,
     ) -> Entry
         requires { inst.now ≡ J.inst }
-        ensures more { IfMade result (λ more woken.
-            more ≡ offers_wait resident self.new.ledger.journal) }
-        ensures waits_not { IfMade result (λ more woken.
+        ensures more { IfMade result (λ more_mail woken_desk.
+            more_mail ≡ offers_wait resident self.new.ledger.journal) }
+        ensures waits_not { IfMade result (λ more_mail woken_desk.
             linked_at self.new.waits.mailbox resident ≡ None) }
     {
         let receiver = desk_of_programme(inst, programme);
@@ -172,8 +175,8 @@ impl<J: ExchangeIdentity, M: Mailboxes> Exchange<J, M> {
             Ok(mail) => {
                 self.wait_queues.leave(resident.0);
                 Entry::Made {
-                    more: mail.sender_has_more,
-                    woken: mail.receiver_was_empty.then_some(receiver),
+                    more_mail: mail.sender_has_more,
+                    woken_desk: mail.receiver_was_empty.then_some(receiver),
                 }
             }
             Err(refused) => self.put_refused(refused, receiver, resident.0),
@@ -193,8 +196,8 @@ impl<J: ExchangeIdentity, M: Mailboxes> Exchange<J, M> {
     {
         match self.ledger.enter_take(inst, tally, resident, programme) {
             Ok(()) => Entry::Made {
-                more: true,
-                woken: self.wait_queues.call_first(resident.0),
+                more_mail: true,
+                woken_desk: self.wait_queues.call_first(resident.0),
             },
             Err(refused) => {
                 let receipt = Event::Take {
@@ -223,16 +226,16 @@ impl<J: ExchangeIdentity, M: Mailboxes> Exchange<J, M> {
         kind: AnswerKind,
     ) -> Entry
         requires { inst.now ≡ J.inst }
-        ensures { IfMade result (λ more woken.
-            more ≡ answers_wait programme self.new.ledger.journal) }
+        ensures { IfMade result (λ more_mail woken_desk.
+            more_mail ≡ answers_wait programme self.new.ledger.journal) }
     {
         match self
             .ledger
             .enter_hear_and_tell(inst, tally, programme, resident, kind)
         {
             Ok(mail) => Entry::Made {
-                more: mail.sender_has_more,
-                woken: self
+                more_mail: mail.sender_has_more,
+                woken_desk: self
                     .wait_queues
                     .call_first(desk_of_programme(inst, programme)),
             },

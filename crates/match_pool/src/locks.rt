@@ -17,56 +17,59 @@ use std::sync::{Condvar, Mutex, MutexGuard, Wait};
 /// no bytes. While the thread holds a desk's lock, the lock's guard has the rank.
 #[derive(Drop)]
 pub(crate) struct DeskRank<J: WorkersIdentity> {
-    own: Share<RankLedger<J>>,
-    ghost one: { own.parts ≡ 1 },
-    ghost none: { own.amount ≡ 0 },
+    share: Share<RankLedger<J>>,
+    ghost one: { share.parts ≡ 1 },
+    ghost none: { share.amount ≡ 0 },
 }
 
 /// A thread's rank for the ledger's lock and the schedule's: the thread's other part of the ledger of ranks. While
 /// the thread holds one of these locks, the lock's guard has this part, and the rank has none.
 #[derive(Drop)]
 pub(crate) struct InnerRank<J: WorkersIdentity> {
-    own: Share<RankLedger<J>>,
-    ghost none: { own.amount ≡ 0 },
+    share: Share<RankLedger<J>>,
+    ghost none: { share.amount ≡ 0 },
 }
 
 /// The two ranks of a thread, made of exactly the two parts that the thread has of the run's ledger of ranks.
 pub(crate) fn ranks_of<J: WorkersIdentity>(
-    parts: Share<RankLedger<J>>,
+    share: Share<RankLedger<J>>,
 ) -> (DeskRank<J>, InnerRank<J>)
-    requires parts { parts.parts ≡ 2 }
-    requires amount { parts.amount ≡ 0 }
-    ensures { result.1.own.parts ≡ 1 }
+    requires parts { share.parts ≡ 2 }
+    requires amount { share.amount ≡ 0 }
+    ensures { result.1.share.parts ≡ 1 }
 {
-    let mut parts = parts;
-    let own = parts.split_off(1, 0);
-    (DeskRank { own: parts }, InnerRank { own })
+    let mut desk_share = share;
+    let inner_share = desk_share.split_off(1, 0);
+    (
+        DeskRank { share: desk_share },
+        InnerRank { share: inner_share },
+    )
 }
 
 impl<J: WorkersIdentity> InnerRank<J> {
     // Takes the part out of the rank, for the guard of a lock.
     #[inline(always)]
     fn take_part(&mut self) -> HeldPart<J>
-        requires { self.old.own.parts ≡ 1 }
-        ensures { self.new.own.parts ≡ 0 }
+        requires { self.old.share.parts ≡ 1 }
+        ensures { self.new.share.parts ≡ 0 }
     {
         HeldPart {
-            own: self.own.split_off(1, 0),
+            share: self.share.split_off(1, 0),
         }
     }
 
     /// Releases the ledger's lock or the schedule's. The rank gets back the part that the lock's guard has.
     #[inline(always)]
     pub(crate) fn give_back<T>(&mut self, guard: InnerGuard<'_, J, T>)
-        requires { self.old.own.parts ≡ 0 }
-        ensures { self.new.own.parts ≡ 1 }
+        requires { self.old.share.parts ≡ 0 }
+        ensures { self.new.share.parts ≡ 1 }
     {
         let InnerGuard {
             guard,
-            held: HeldPart { own },
+            held_part: HeldPart { share },
         } = guard;
         drop(guard);
-        self.own.merge(own);
+        self.share.merge(share);
     }
 }
 
@@ -81,15 +84,15 @@ pub(crate) struct InnerLock<J: WorkersIdentity, T> {
 #[derive(Drop)]
 pub(crate) struct InnerGuard<'a, J: WorkersIdentity, T> {
     guard: MutexGuard<'a, T>,
-    held: HeldPart<J>,
+    held_part: HeldPart<J>,
 }
 
 /// The part that a thread's `InnerRank` lacks while the thread holds the ledger's lock or the schedule's.
 #[derive(Drop)]
 struct HeldPart<J: WorkersIdentity> {
-    own: Share<RankLedger<J>>,
-    ghost one: { own.parts ≡ 1 },
-    ghost none: { own.amount ≡ 0 },
+    share: Share<RankLedger<J>>,
+    ghost one: { share.parts ≡ 1 },
+    ghost none: { share.amount ≡ 0 },
 }
 
 impl<J: WorkersIdentity, T> InnerLock<J, T> {
@@ -106,16 +109,16 @@ impl<J: WorkersIdentity, T> InnerLock<J, T> {
     pub(crate) fn lock<R: Wait>(
         &self,
         rt: &R,
-        inner: &mut InnerRank<J>,
-        room: &NapRoom,
+        inner_rank: &mut InnerRank<J>,
+        nap_room: &NapRoom,
     ) -> InnerGuard<'_, J, T>
-        requires { inner.old.own.parts ≡ 1 }
-        ensures { inner.new.own.parts ≡ 0 }
+        requires { inner_rank.old.share.parts ≡ 1 }
+        ensures { inner_rank.new.share.parts ≡ 0 }
     {
-        let held = inner.take_part();
+        let held_part = inner_rank.take_part();
         InnerGuard {
-            guard: lock_soon(rt, &self.lock, room),
-            held,
+            guard: lock_soon(rt, &self.lock, nap_room),
+            held_part,
         }
     }
 
@@ -123,15 +126,15 @@ impl<J: WorkersIdentity, T> InnerLock<J, T> {
     pub(crate) fn lock_at_once<R: Wait>(
         &self,
         rt: &R,
-        inner: &mut InnerRank<J>,
+        inner_rank: &mut InnerRank<J>,
     ) -> InnerGuard<'_, J, T>
-        requires { inner.old.own.parts ≡ 1 }
-        ensures { inner.new.own.parts ≡ 0 }
+        requires { inner_rank.old.share.parts ≡ 1 }
+        ensures { inner_rank.new.share.parts ≡ 0 }
     {
-        let held = inner.take_part();
+        let held_part = inner_rank.take_part();
         InnerGuard {
             guard: self.lock.lock(rt),
-            held,
+            held_part,
         }
     }
 
@@ -159,12 +162,12 @@ impl<'s, 'a, J: ExchangeIdentity + WorkersIdentity, G: Gate> InnerGuard<'s, J, R
         news: &News,
         _resting: &Resting<J>,
     ) -> InnerGuard<'s, J, RunState<'a, J, G>> {
-        let InnerGuard { guard, held } = self;
+        let InnerGuard { guard, held_part } = self;
         InnerGuard {
             guard: news
                 .0
                 .wait_while(rt, guard, |state| !state.shift.has_news()),
-            held,
+            held_part,
         }
     }
 }
@@ -231,9 +234,9 @@ impl<J: WorkersIdentity, T> DeskLock<J, T> {
         &self,
         rt: &R,
         rank: DeskRank<J>,
-        inner: &InnerRank<J>,
+        inner_rank: &InnerRank<J>,
     ) -> DeskGuard<'_, J, T>
-        requires { inner.now.own.parts ≡ 1 }
+        requires { inner_rank.now.share.parts ≡ 1 }
     {
         DeskGuard {
             guard: self.lock.lock(rt),
@@ -265,21 +268,21 @@ impl<'a, J: WorkersIdentity, T> DeskGuard<'a, J, T> {
 }
 
 /// How often a worker tries a lock before it naps, and how long the worker pauses after each try.
-const TRIES: u32 = 2;
+const TRIES_PER_LOCK: u32 = 2;
 
-const PAUSES: u32 = 4;
+const PAUSES_PER_TRY: u32 = 4;
 
 /// How often a worker naps before it waits for a lock without a limit.
-const NAPS: u32 = 20;
+const NAPS_PER_LOCK: u32 = 20;
 
 // Tries a lock a few times, and returns none if another worker holds the lock each time.
 #[inline(always)]
 fn try_soon<T>(lock: &Mutex<T>) -> Option<MutexGuard<'_, T>> {
-    for _ in 0..TRIES {
+    for _ in 0..TRIES_PER_LOCK {
         if let Some(guard) = lock.try_lock() {
             return Some(guard);
         }
-        for _ in 0..PAUSES {
+        for _ in 0..PAUSES_PER_TRY {
             spin_loop();
         }
     }
@@ -289,20 +292,20 @@ fn try_soon<T>(lock: &Mutex<T>) -> Option<MutexGuard<'_, T>> {
 // Locks a lock that each worker needs for each event. If another worker holds the lock, this worker naps, so that the
 // other one goes on alone. If a lock changes hands with each event, two workers are slower than one.
 #[inline(always)]
-fn lock_soon<'a, T, R: Wait>(rt: &R, lock: &'a Mutex<T>, room: &NapRoom) -> MutexGuard<'a, T> {
+fn lock_soon<'a, T, R: Wait>(rt: &R, lock: &'a Mutex<T>, nap_room: &NapRoom) -> MutexGuard<'a, T> {
     match try_soon(lock) {
         Some(guard) => guard,
-        None => lock_later(rt, lock, room),
+        None => lock_later(rt, lock, nap_room),
     }
 }
 
 // Locks a lock that another worker holds. This worker tries the lock after each of several naps, and after the last
 // nap waits for it.
 #[cold]
-fn lock_later<'a, T, R: Wait>(rt: &R, lock: &'a Mutex<T>, room: &NapRoom) -> MutexGuard<'a, T> {
+fn lock_later<'a, T, R: Wait>(rt: &R, lock: &'a Mutex<T>, nap_room: &NapRoom) -> MutexGuard<'a, T> {
     let mut naps = Naps::FOR_LOCK;
-    for _ in 0..NAPS {
-        naps.nap(rt, room);
+    for _ in 0..NAPS_PER_LOCK {
+        naps.nap(rt, nap_room);
         if let Some(guard) = try_soon(lock) {
             return guard;
         }

@@ -25,7 +25,7 @@ use std::sync::ledger::Blank;
 
 /// The desks of one side, in the order of their numbers: the sending ends of their mailboxes, and the locks with
 /// their agents.
-type Side<P, J, D> = (Vec<P>, Vec<DeskLock<J, D>>);
+type SideDesks<P, J, D> = (Vec<P>, Vec<DeskLock<J, D>>);
 
 /// What a run needs to open its exchange. The type names the instance and the capacity.
 #[derive(Drop)]
@@ -45,10 +45,10 @@ impl<'a, J: ExchangeIdentity + WorkersIdentity, M: Mailboxes> RunStart<'a, J, M>
     pub(crate) fn shared<'g, G: Gate>(
         &self,
         blank: Blank,
-        counts: Workers<J>,
+        worker_counts: Workers<J>,
         workers: u32,
     ) -> Result<(SharedState<'g, J, M, G>, Vec<Tally<J>>), RunFault>
-        requires nobody { counts.begun ≡ 0 }
+        requires nobody { worker_counts.begun ≡ 0 }
         requires workers { workers ≡ J.workers }
         requires blank { (blank.name ≡ J.name) × (blank.parts ≡ J.parts) × (J.parts ≡ 8) }
         ensures { IfErr result (λ fault. fault ≡ Memory) }
@@ -58,43 +58,43 @@ impl<'a, J: ExchangeIdentity + WorkersIdentity, M: Mailboxes> RunStart<'a, J, M>
         let (offer_puts, residents) = self.residents()?;
         let (answer_puts, programmes) = self.programmes()?;
         let (exchange, tallies) = self.exchange(blank, workers, offer_puts, answer_puts)?;
-        let state = RunState::new(Shift::new(scheduler, counts));
+        let state = RunState::new(Shift::new(scheduler, worker_counts));
         let shared = SharedState::new(residents, programmes, exchange, state);
         Ok((shared, tallies))
     }
 
     // For each resident a mailbox: its sending end, and a lock with the resident's agent, which has the receiving end.
-    fn residents(&self) -> Result<Side<M::OfferPut, J, ResidentSeat<J, M>>, RunFault>
+    fn residents(&self) -> Result<SideDesks<M::OfferPut, J, ResidentSeat<J, M>>, RunFault>
         ensures puts { IfOk result (λ side. Each side.0.items (length J.inst.resident_lists)
             (IsNew M.OfferPut.puts M.offer_room (offer_room_of J.inst J.cap))) }
         ensures fault { IfErr result (λ fault. fault ≡ Memory) }
     {
-        let count = self.inst.residents();
-        let mut puts = Vec::with_capacity(self.alloc, count as usize)?;
-        let mut desks = Vec::with_capacity(self.alloc, count as usize)?;
-        for r in 0..count {
-            let (put, desk) = self.resident(ResidentNo(r))?;
-            puts.push(put)?;
+        let resident_count = self.inst.residents();
+        let mut offer_puts = Vec::with_capacity(self.alloc, resident_count as usize)?;
+        let mut desks = Vec::with_capacity(self.alloc, resident_count as usize)?;
+        for r in 0..resident_count {
+            let (offer_put, desk) = self.resident(ResidentNo(r))?;
+            offer_puts.push(offer_put)?;
             desks.push(DeskLock::new(desk))?;
         }
-        Ok((puts, desks))
+        Ok((offer_puts, desks))
     }
 
     // For each programme a mailbox: its sending end, and a lock with the agent, which has the receiving end.
-    fn programmes(&self) -> Result<Side<M::AnswerPut, J, ProgrammeSeat<J, M>>, RunFault>
+    fn programmes(&self) -> Result<SideDesks<M::AnswerPut, J, ProgrammeSeat<J, M>>, RunFault>
         ensures puts { IfOk result (λ side. Each side.0.items (length J.inst.quotas)
             (IsNew M.AnswerPut.puts M.answer_room (answer_room_of J.inst J.cap))) }
         ensures fault { IfErr result (λ fault. fault ≡ Memory) }
     {
-        let count = self.inst.programmes();
-        let mut puts = Vec::with_capacity(self.alloc, count as usize)?;
-        let mut desks = Vec::with_capacity(self.alloc, count as usize)?;
-        for p in 0..count {
-            let (put, desk) = self.programme(ProgrammeNo(p))?;
-            puts.push(put)?;
+        let programme_count = self.inst.programmes();
+        let mut answer_puts = Vec::with_capacity(self.alloc, programme_count as usize)?;
+        let mut desks = Vec::with_capacity(self.alloc, programme_count as usize)?;
+        for p in 0..programme_count {
+            let (answer_put, desk) = self.programme(ProgrammeNo(p))?;
+            answer_puts.push(answer_put)?;
             desks.push(DeskLock::new(desk))?;
         }
-        Ok((puts, desks))
+        Ok((answer_puts, desks))
     }
 
     // A resident's desk: the sending end of the desk's mailbox, and the desk's agent.
@@ -105,11 +105,12 @@ impl<'a, J: ExchangeIdentity + WorkersIdentity, M: Mailboxes> RunStart<'a, J, M>
         ensures fault { IfErr result (λ fault. fault ≡ Memory) }
     {
         let room = room(self.cap, self.inst.list_of_resident(resident).len());
-        let Ok((put, take)) = self.mailboxes.open_offers(self.alloc, resident, room) else {
+        let Ok((offer_put, offer_take)) = self.mailboxes.open_offers(self.alloc, resident, room)
+        else {
             return Err(RunFault::Memory);
         };
-        match ResidentAgent::open(self.alloc, self.inst, resident, take) {
-            Ok(agent) => Ok((put, Seat::new(agent))),
+        match ResidentAgent::open(self.alloc, self.inst, resident, offer_take) {
+            Ok(agent) => Ok((offer_put, Seat::new(agent))),
             Err(_) => Err(RunFault::Memory),
         }
     }
@@ -125,11 +126,12 @@ impl<'a, J: ExchangeIdentity + WorkersIdentity, M: Mailboxes> RunStart<'a, J, M>
         ensures fault { IfErr result (λ fault. fault ≡ Memory) }
     {
         let room = room(self.cap, 2 * self.inst.list_of_programme(programme).len());
-        let Ok((put, take)) = self.mailboxes.open_answers(self.alloc, programme, room) else {
+        let Ok((answer_put, answer_take)) = self.mailboxes.open_answers(self.alloc, programme, room)
+        else {
             return Err(RunFault::Memory);
         };
-        match ProgrammeAgent::open(self.alloc, self.inst, programme, take) {
-            Ok(agent) => Ok((put, Seat::new(agent))),
+        match ProgrammeAgent::open(self.alloc, self.inst, programme, answer_take) {
+            Ok(agent) => Ok((answer_put, Seat::new(agent))),
             Err(_) => Err(RunFault::Memory),
         }
     }
@@ -167,17 +169,17 @@ impl<'a, J: ExchangeIdentity + WorkersIdentity, M: Mailboxes> RunStart<'a, J, M>
     }
 }
 
-// The room of a mailbox that gets at most `most` messages in the whole exchange. The room is never more than can be
+// The room of a mailbox that gets at most `most_messages` in the whole exchange. The room is never more than can be
 // used.
-fn room(cap: Capacity, most: usize) -> u32
-    requires within { most ≤ 2 * MAX_PAIRS }
+fn room(cap: Capacity, most_messages: usize) -> u32
+    requires within { most_messages ≤ 2 * MAX_PAIRS }
     requires admitted { is_capacity cap ≡ true }
-    ensures exact { result ≡ room_of cap most }
+    ensures exact { result ≡ room_of cap most_messages }
     ensures some { result ≢ 0 }
 {
-    let full = (most as u32).max(1);
+    let full_room = (most_messages as u32).max(1);
     match cap {
-        Capacity::Full => full,
-        Capacity::Each(n) => n.min(full),
+        Capacity::Full => full_room,
+        Capacity::Each(messages) => messages.min(full_room),
     }
 }

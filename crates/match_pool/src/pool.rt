@@ -105,10 +105,10 @@ fn run_named<
     requires workers { (workers ≡ J.workers) × (1 ≤ workers) × (workers ≤ 8) }
     requires entries { (blanks.entries.name ≡ J.name)
         × (blanks.entries.parts ≡ J.parts) × (J.parts ≡ 8) }
-    requires holding { blanks.workers.holding.name ≡ J.holding }
-    requires looking { blanks.workers.looking.name ≡ J.looking }
-    requires resting { blanks.workers.resting.name ≡ J.resting }
-    requires ranks { blanks.workers.ranks.name ≡ J.ranks }
+    requires holding { blanks.workers.holding.name ≡ J.holding_ledger }
+    requires looking { blanks.workers.looking.name ≡ J.looking_ledger }
+    requires resting { blanks.workers.resting.name ≡ J.resting_ledger }
+    requires ranks { blanks.workers.ranks.name ≡ J.rank_ledger }
     requires admitted { is_capacity cap ≡ true }
     ensures run { IfOk result (λ done. IsRunOf done M.OfferPut.puts M.OfferTake.taken
         M.AnswerPut.puts M.AnswerTake.taken inst.now cap workers G.MAY_STOP) }
@@ -117,17 +117,17 @@ fn run_named<
     let reserve = Reserve::new(alloc, inst, workers)?;
     let Blanks {
         entries,
-        workers: counts,
+        workers: worker_blanks,
     } = blanks;
-    let start = RunStart::<J, M> {
+    let run_start = RunStart::<J, M> {
         alloc,
         mailboxes,
         inst,
         cap,
         exchange: PhantomData,
     };
-    let (counts, crew, ranks) = counts.open();
-    let (shared, tallies) = start.shared::<G>(entries, counts, workers as u32)?;
+    let (worker_counts, crew, ranks) = worker_blanks.open();
+    let (shared, tallies) = run_start.shared::<G>(entries, worker_counts, workers as u32)?;
     let tallies = drive(rt, alloc, inst, &shared, gate, tallies, crew, ranks)?;
     reserve.finish(inst, shared, tallies)
 }

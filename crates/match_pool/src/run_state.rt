@@ -52,10 +52,10 @@ impl<'a, J: ExchangeIdentity + WorkersIdentity, G: Gate> RunState<'a, J, G> {
     /// Notes a fault that ends the run. If there was a fault before, that one stays.
     pub(crate) fn fail(&mut self, trouble: Trouble) -> Unheard
         ensures { MatchOption self.old.trouble (self.new.trouble ≡ Some trouble)
-            (λ first. self.new.trouble ≡ Some first) }
+            (λ first_trouble. self.new.trouble ≡ Some first_trouble) }
     {
-        let first = self.trouble.unwrap_or(trouble);
-        self.trouble = Some(first);
+        let first_trouble = self.trouble.unwrap_or(trouble);
+        self.trouble = Some(first_trouble);
         self.end()
     }
 

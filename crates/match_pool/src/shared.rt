@@ -30,8 +30,8 @@ pub(crate) struct SharedState<'a, J: ExchangeIdentity + WorkersIdentity, M: Mail
     exchange: InnerLock<J, Exchange<J, M>>,
     state: InnerLock<J, RunState<'a, J, G>>,
     news: News,
-    for_lock: NapRoom,
-    for_work: NapRoom,
+    lock_nap_room: NapRoom,
+    work_nap_room: NapRoom,
 }
 
 // One function drops the whole shared state: callers prove nothing about its parts.
@@ -44,8 +44,8 @@ impl<'a, J: ExchangeIdentity + WorkersIdentity, M: Mailboxes, G: Gate> Drop
             exchange: _,
             state: _,
             news: _,
-            for_lock: _,
-            for_work: _,
+            lock_nap_room: _,
+            work_nap_room: _,
         } = self;
     }
 }
@@ -59,8 +59,8 @@ impl<'a, J: ExchangeIdentity + WorkersIdentity, M: Mailboxes, G: Gate> SharedSta
             exchange,
             state,
             news: _,
-            for_lock: _,
-            for_work: _,
+            lock_nap_room: _,
+            work_nap_room: _,
         } = self;
         let exchange = exchange.into_inner();
         (residents, programmes, exchange, state.into_inner())
@@ -79,8 +79,8 @@ impl<'a, J: ExchangeIdentity + WorkersIdentity, M: Mailboxes, G: Gate> SharedSta
             exchange: InnerLock::new(exchange),
             state: InnerLock::new(state),
             news: News::new(),
-            for_lock: NapRoom::new(),
-            for_work: NapRoom::new(),
+            lock_nap_room: NapRoom::new(),
+            work_nap_room: NapRoom::new(),
         }
     }
 
@@ -89,12 +89,12 @@ impl<'a, J: ExchangeIdentity + WorkersIdentity, M: Mailboxes, G: Gate> SharedSta
     pub(crate) fn lock_exchange<R: Wait>(
         &self,
         rt: &R,
-        inner: &mut InnerRank<J>,
+        inner_rank: &mut InnerRank<J>,
     ) -> InnerGuard<'_, J, Exchange<J, M>>
-        requires { inner.old.own.parts ≡ 1 }
-        ensures { inner.new.own.parts ≡ 0 }
+        requires { inner_rank.old.share.parts ≡ 1 }
+        ensures { inner_rank.new.share.parts ≡ 0 }
     {
-        self.exchange.lock(rt, inner, &self.for_lock)
+        self.exchange.lock(rt, inner_rank, &self.lock_nap_room)
     }
 
     /// The schedule and the state of the run, once this thread has their lock.
@@ -102,68 +102,68 @@ impl<'a, J: ExchangeIdentity + WorkersIdentity, M: Mailboxes, G: Gate> SharedSta
     pub(crate) fn lock_state<R: Wait>(
         &self,
         rt: &R,
-        inner: &mut InnerRank<J>,
+        inner_rank: &mut InnerRank<J>,
     ) -> InnerGuard<'_, J, RunState<'a, J, G>>
-        requires { inner.old.own.parts ≡ 1 }
-        ensures { inner.new.own.parts ≡ 0 }
+        requires { inner_rank.old.share.parts ≡ 1 }
+        ensures { inner_rank.new.share.parts ≡ 0 }
     {
-        self.state.lock(rt, inner, &self.for_lock)
+        self.state.lock(rt, inner_rank, &self.lock_nap_room)
     }
 
     /// Naps once, because the worker found no desk with work. Also wakes the workers that nap for a lock, since one
     /// of them may hold a desk with work.
     pub(crate) fn nap<R: Wait>(&self, rt: &R, naps: &mut Naps) {
-        self.for_lock.rouse();
-        naps.nap(rt, &self.for_work);
+        self.lock_nap_room.rouse();
+        naps.nap(rt, &self.work_nap_room);
     }
 
     /// Whether the run ends.
     #[inline(always)]
     pub(crate) fn is_ending(&self) -> bool {
-        self.for_lock.is_over()
+        self.lock_nap_room.is_over()
     }
 
     /// Ends the run, because the close is entered.
-    pub(crate) fn close<R: Wait>(&self, rt: &R, inner: &mut InnerRank<J>, close: CloseToken<J>)
-        requires { inner.old.own.parts ≡ 1 }
-        ensures { inner.new.own.parts ≡ 1 }
+    pub(crate) fn close<R: Wait>(&self, rt: &R, inner_rank: &mut InnerRank<J>, close: CloseToken<J>)
+        requires { inner_rank.old.share.parts ≡ 1 }
+        ensures { inner_rank.new.share.parts ≡ 1 }
     {
         self.end_naps();
-        let mut state = self.lock_state(rt, inner);
-        let end = state.value().close(close);
-        inner.give_back(state);
-        self.news.wake_all(end);
+        let mut state = self.lock_state(rt, inner_rank);
+        let unheard_end = state.value().close(close);
+        inner_rank.give_back(state);
+        self.news.wake_all(unheard_end);
     }
 
     /// Ends the run, because the gate said so. Each worker still enters the event that it has begun, and then leaves.
-    pub(crate) fn stop<R: Wait>(&self, rt: &R, inner: &mut InnerRank<J>)
+    pub(crate) fn stop<R: Wait>(&self, rt: &R, inner_rank: &mut InnerRank<J>)
         requires may_stop { G.MAY_STOP ≡ true }
-        requires free { inner.old.own.parts ≡ 1 }
-        ensures { inner.new.own.parts ≡ 1 }
+        requires free { inner_rank.old.share.parts ≡ 1 }
+        ensures { inner_rank.new.share.parts ≡ 1 }
     {
-        let mut state = self.lock_state(rt, inner);
-        let end = state.value().stop();
-        inner.give_back(state);
+        let mut state = self.lock_state(rt, inner_rank);
+        let unheard_end = state.value().stop();
+        inner_rank.give_back(state);
         self.end_naps();
-        self.news.wake_all(end);
+        self.news.wake_all(unheard_end);
     }
 
     /// Ends the run with a fault. If there are several faults, the first fault stays.
-    pub(crate) fn fail<R: Wait>(&self, rt: &R, inner: &mut InnerRank<J>, trouble: Trouble)
-        requires { inner.old.own.parts ≡ 1 }
-        ensures { inner.new.own.parts ≡ 1 }
+    pub(crate) fn fail<R: Wait>(&self, rt: &R, inner_rank: &mut InnerRank<J>, trouble: Trouble)
+        requires { inner_rank.old.share.parts ≡ 1 }
+        ensures { inner_rank.new.share.parts ≡ 1 }
     {
         self.end_naps();
-        let mut state = self.lock_state(rt, inner);
-        let end = state.value().fail(trouble);
-        inner.give_back(state);
-        self.news.wake_all(end);
+        let mut state = self.lock_state(rt, inner_rank);
+        let unheard_end = state.value().fail(trouble);
+        inner_rank.give_back(state);
+        self.news.wake_all(unheard_end);
     }
 
     // Notes that no worker may begin another event, and wakes all workers that nap.
     fn end_naps(&self) {
-        self.for_lock.end();
-        self.for_work.end();
+        self.lock_nap_room.end();
+        self.work_nap_room.end();
     }
 
     /// Counts one more worker of the crew as begun, before its thread starts. The result is none if too many have
@@ -171,16 +171,16 @@ impl<'a, J: ExchangeIdentity + WorkersIdentity, M: Mailboxes, G: Gate> SharedSta
     pub(crate) fn begin_one<R: Wait>(
         &self,
         rt: &R,
-        inner: &mut InnerRank<J>,
+        inner_rank: &mut InnerRank<J>,
         crew: &mut Crew<J>,
     ) -> Option<Looking<J>>
-        requires { inner.old.own.parts ≡ 1 }
-        ensures { inner.new.own.parts ≡ 1 }
+        requires { inner_rank.old.share.parts ≡ 1 }
+        ensures { inner_rank.new.share.parts ≡ 1 }
     {
-        let mut state = self.state.lock_at_once(rt, inner);
-        let begun = state.value().shift.begins(crew);
-        inner.give_back(state);
-        begun
+        let mut state = self.state.lock_at_once(rt, inner_rank);
+        let begun_worker = state.value().shift.begins(crew);
+        inner_rank.give_back(state);
+        begun_worker
     }
 
     /// Waits for news until a desk is listed or the run ends. The worker is counted as resting.

@@ -35,31 +35,31 @@ pub(crate) struct Worker<
     shared: &'a SharedState<'f, J, M, G>,
     number: usize,
     tally: Tally<J>,
-    inner: InnerRank<J>,
+    inner_rank: InnerRank<J>,
     woken: Woken,
     missed: u32,
     ghost named: { inst.now ≡ J.inst },
-    ghost idle: { inner.own.parts ≡ 1 },
+    ghost idle: { inner_rank.share.parts ≡ 1 },
 }
 
 /// What a worker does after a step at a desk.
 #[derive(Clone, Copy, Debug, PartialEq, Eq)]
 enum Step {
-    /// The worker stays at the desk: an event was entered, or the mailbox had no message. `more` says whether the
+    /// The worker stays at the desk: an event was entered, or the mailbox had no message. `more_mail` says whether the
     /// mailbox may have further messages.
-    Stay { more: bool },
-    /// The worker leaves the desk. `again` says whether the desk has to be visited again at once.
-    Leave { again: bool },
+    Stay { more_mail: bool },
+    /// The worker leaves the desk. `visit_again` says whether the desk has to be visited again at once.
+    Leave { visit_again: bool },
 }
 
 /// A miss is a mailbox without a message, or without room, although the journal says otherwise. After this many
 /// misses in a row, a worker naps after each further miss.
-const MISSES: u32 = 16;
+const MISSES_BEFORE_NAPS: u32 = 16;
 
 /// How often a worker that found no desk naps and looks again, before it rests until a desk is listed.
-const LOOKS: u32 = 8;
+const LOOKS_BEFORE_REST: u32 = 8;
 
-const LEAVE: Step = Step::Leave { again: false };
+const LEAVE: Step = Step::Leave { visit_again: false };
 
 // What an answer wakes its programme for: a decline or a release gives back a place, so the programme may make
 // another offer.
@@ -87,10 +87,10 @@ impl<'a, 'f, J: ExchangeIdentity + WorkersIdentity, M: Mailboxes, G: Gate, R: Wa
         shared: &'a SharedState<'f, J, M, G>,
         number: usize,
         tally: Tally<J>,
-        inner: InnerRank<J>,
+        inner_rank: InnerRank<J>,
     ) -> Worker<'a, 'f, J, M, G, R>
         requires named { inst.now ≡ J.inst }
-        requires idle { inner.own.parts ≡ 1 }
+        requires idle { inner_rank.share.parts ≡ 1 }
     {
         Worker {
             rt,
@@ -99,7 +99,7 @@ impl<'a, 'f, J: ExchangeIdentity + WorkersIdentity, M: Mailboxes, G: Gate, R: Wa
             shared,
             number,
             tally,
-            inner,
+            inner_rank,
             woken: Woken::new(),
             missed: 0,
         }
@@ -107,19 +107,23 @@ impl<'a, 'f, J: ExchangeIdentity + WorkersIdentity, M: Mailboxes, G: Gate, R: Wa
 
     /// Works at desks until the run ends, and returns the worker's tally. The worker begins with the token of a
     /// worker that looks for a desk and gives this token back, so it has let go of each desk that it took.
-    pub(crate) fn work(mut self, desk: DeskRank<J>, own: Looking<J>) -> (Tally<J>, Looking<J>) {
-        let mut rank = desk;
-        let mut in_hand = self.begin(own);
+    pub(crate) fn work(
+        mut self,
+        desk_rank: DeskRank<J>,
+        looking: Looking<J>,
+    ) -> (Tally<J>, Looking<J>) {
+        let mut rank = desk_rank;
+        let mut next_hand = self.begin(looking);
         for _ in self.rt.forever() {
-            match in_hand {
+            match next_hand {
                 Ok(hand) => {
-                    let (again, back) = self.visit(rank, hand.desk());
-                    rank = back;
-                    in_hand = self.turn(hand, again);
+                    let (visit_again, rank_back) = self.visit(rank, hand.desk());
+                    rank = rank_back;
+                    next_hand = self.change_desk(hand, visit_again);
                 }
-                Err(own) => {
+                Err(looking) => {
                     let Worker { tally, .. } = self;
-                    return (tally, own);
+                    return (tally, looking);
                 }
             }
         }
@@ -127,9 +131,9 @@ impl<'a, 'f, J: ExchangeIdentity + WorkersIdentity, M: Mailboxes, G: Gate, R: Wa
     }
 
     // Gets the worker's first desk.
-    fn begin(&mut self, own: Looking<J>) -> Result<Hand<J>, Looking<J>> {
-        let first = self.next(own);
-        self.or_search(first)
+    fn begin(&mut self, looking: Looking<J>) -> Result<Hand<J>, Looking<J>> {
+        let first_turn = self.next(looking);
+        self.or_search(first_turn)
     }
 
     // Works at a desk while the desk has work. The answer is whether the desk has to be visited again at once.
@@ -139,36 +143,36 @@ impl<'a, 'f, J: ExchangeIdentity + WorkersIdentity, M: Mailboxes, G: Gate, R: Wa
             let Some(seat) = self.shared.residents.get(desk as usize) else {
                 return (false, rank);
             };
-            let mut seat = seat.lock(self.rt, rank, &self.inner);
-            let again = self.visit_resident(seat.value(), ResidentNo(desk));
-            (again, seat.give_back())
+            let mut seat = seat.lock(self.rt, rank, &self.inner_rank);
+            let visit_again = self.visit_resident(seat.value(), ResidentNo(desk));
+            (visit_again, seat.give_back())
         } else {
             let programme = desk - residents;
             let Some(seat) = self.shared.programmes.get(programme as usize) else {
                 return (false, rank);
             };
-            let mut seat = seat.lock(self.rt, rank, &self.inner);
-            let again = self.visit_programme(seat.value(), ProgrammeNo(programme));
-            (again, seat.give_back())
+            let mut seat = seat.lock(self.rt, rank, &self.inner_rank);
+            let visit_again = self.visit_programme(seat.value(), ProgrammeNo(programme));
+            (visit_again, seat.give_back())
         }
     }
 
     // Gives every answer that is due and takes the next offer, while the resident's mailbox has an offer. The worker
     // looks into the mailbox first, and asks the ledger only if the mailbox has no message.
     fn visit_resident(&mut self, seat: &mut ResidentSeat<J, M>, resident: ResidentNo) -> bool {
-        let mut more = true;
+        let mut more_mail = true;
         for _ in self.rt.forever() {
             if self.shared.is_ending() {
                 return false;
             }
-            let step = match seat.due() {
+            let step = match seat.due_answer() {
                 Some((programme, kind)) => self.answer(seat, resident, programme, kind),
-                None if more => self.take(seat, resident),
+                None if more_mail => self.take(seat, resident),
                 None => return false,
             };
             match step {
-                Step::Stay { more: now } => more = now,
-                Step::Leave { again } => return again,
+                Step::Stay { more_mail: more } => more_mail = more,
+                Step::Leave { visit_again } => return visit_again,
             }
         }
         unreachable!()
@@ -177,15 +181,15 @@ impl<'a, 'f, J: ExchangeIdentity + WorkersIdentity, M: Mailboxes, G: Gate, R: Wa
     // Hears every answer that waits, and makes offers while the programme has a wish. If the desk was called because a
     // mailbox got room, the offer into that room comes first, since other desks wait behind it.
     fn visit_programme(&mut self, seat: &mut ProgrammeSeat<J, M>, programme: ProgrammeNo) -> bool {
-        let mut more = true;
+        let mut more_mail = true;
         if seat.asks_first_once() {
-            let mut exchange = self.shared.lock_exchange(self.rt, &mut self.inner);
+            let mut exchange = self.shared.lock_exchange(self.rt, &mut self.inner_rank);
             let (has_more, is_called) = exchange.value().programme_comes(self.inst, programme);
-            self.inner.give_back(exchange);
-            more = has_more;
-            if more && is_called {
+            self.inner_rank.give_back(exchange);
+            more_mail = has_more;
+            if more_mail && is_called {
                 match self.offer_next(seat, programme) {
-                    Step::Stay { more: now } => more = now,
+                    Step::Stay { more_mail: more } => more_mail = more,
                     Step::Leave { .. } => return true,
                 }
             }
@@ -194,14 +198,14 @@ impl<'a, 'f, J: ExchangeIdentity + WorkersIdentity, M: Mailboxes, G: Gate, R: Wa
             if self.shared.is_ending() {
                 return false;
             }
-            let step = if more {
+            let step = if more_mail {
                 self.hear(seat, programme)
             } else {
                 self.offer_next(seat, programme)
             };
             match step {
-                Step::Stay { more: now } => more = now,
-                Step::Leave { again } => return again,
+                Step::Stay { more_mail: more } => more_mail = more,
+                Step::Leave { visit_again } => return visit_again,
             }
         }
         unreachable!()
@@ -217,11 +221,11 @@ impl<'a, 'f, J: ExchangeIdentity + WorkersIdentity, M: Mailboxes, G: Gate, R: Wa
     ) -> Step
         requires { slice_get seat.old.agent.due 0 ≢ None }
     {
-        let mut exchange = self.shared.lock_exchange(self.rt, &mut self.inner);
+        let mut exchange = self.shared.lock_exchange(self.rt, &mut self.inner_rank);
         let entry = exchange
             .value()
             .answer(self.inst, &mut self.tally, resident, programme, kind);
-        self.inner.give_back(exchange);
+        self.inner_rank.give_back(exchange);
         if let Entry::Made { .. } = entry {
             seat.answered();
         }
@@ -247,14 +251,14 @@ impl<'a, 'f, J: ExchangeIdentity + WorkersIdentity, M: Mailboxes, G: Gate, R: Wa
     ) -> Step
         requires { wish_of J.inst seat.old.agent ≢ None }
     {
-        let mut exchange = self.shared.lock_exchange(self.rt, &mut self.inner);
+        let mut exchange = self.shared.lock_exchange(self.rt, &mut self.inner_rank);
         let entry = exchange
             .value()
             .offer(self.inst, &mut self.tally, programme, resident);
-        self.inner.give_back(exchange);
+        self.inner_rank.give_back(exchange);
         match entry {
             Entry::Made { .. } => seat.offered(self.inst),
-            Entry::Later => seat.waits(),
+            Entry::Later => seat.waits_for_room(),
             Entry::Missed | Entry::Ended | Entry::Refused | Entry::Gone => {}
         }
         let (sender, receiver) = (Desk::Programme(programme), Desk::Resident(resident));
@@ -271,13 +275,13 @@ impl<'a, 'f, J: ExchangeIdentity + WorkersIdentity, M: Mailboxes, G: Gate, R: Wa
             heard => return self.after_look(heard, desk),
         };
         self.pass(same_desk);
-        let mut exchange = self.shared.lock_exchange(self.rt, &mut self.inner);
+        let mut exchange = self.shared.lock_exchange(self.rt, &mut self.inner_rank);
         let entry = exchange
             .value()
             .take(self.inst, &mut self.tally, resident, programme);
-        let guess = exchange.value().taken_rank(resident);
-        self.inner.give_back(exchange);
-        seat.decide(self.inst, guess);
+        let rank_guess = exchange.value().taken_rank(resident);
+        self.inner_rank.give_back(exchange);
+        seat.decide(self.inst, rank_guess);
         self.after_receipt(entry)
     }
 
@@ -292,11 +296,11 @@ impl<'a, 'f, J: ExchangeIdentity + WorkersIdentity, M: Mailboxes, G: Gate, R: Wa
         };
         self.pass(same_desk);
         let AnswerNote { resident, kind } = note;
-        let mut exchange = self.shared.lock_exchange(self.rt, &mut self.inner);
+        let mut exchange = self.shared.lock_exchange(self.rt, &mut self.inner_rank);
         let entry = exchange
             .value()
             .hear(self.inst, &mut self.tally, programme, resident, kind);
-        self.inner.give_back(exchange);
+        self.inner_rank.give_back(exchange);
         self.after_receipt(entry)
     }
 
@@ -304,7 +308,7 @@ impl<'a, 'f, J: ExchangeIdentity + WorkersIdentity, M: Mailboxes, G: Gate, R: Wa
     #[inline(always)]
     fn pass(&mut self, desk: Desk) {
         if let Go::Stop = self.gate.pass(self.number, desk) {
-            self.shared.stop(self.rt, &mut self.inner);
+            self.shared.stop(self.rt, &mut self.inner_rank);
         }
     }
 
@@ -312,17 +316,20 @@ impl<'a, 'f, J: ExchangeIdentity + WorkersIdentity, M: Mailboxes, G: Gate, R: Wa
     #[inline(always)]
     fn after_put(&mut self, entry: Entry, sender: Desk, receiver: Desk, wake: Wake) -> Step {
         match entry {
-            Entry::Made { more, woken } => self.made(more, woken, wake),
+            Entry::Made {
+                more_mail,
+                woken_desk,
+            } => self.after_made(more_mail, woken_desk, wake),
             Entry::Later | Entry::Ended => LEAVE,
             Entry::Missed => self.miss(sender),
             Entry::Refused => {
                 self.shared
-                    .fail(self.rt, &mut self.inner, Trouble::Torn(sender));
+                    .fail(self.rt, &mut self.inner_rank, Trouble::Torn(sender));
                 LEAVE
             }
             Entry::Gone => {
                 self.shared
-                    .fail(self.rt, &mut self.inner, Trouble::MailGone(receiver));
+                    .fail(self.rt, &mut self.inner_rank, Trouble::MailGone(receiver));
                 LEAVE
             }
         }
@@ -332,10 +339,13 @@ impl<'a, 'f, J: ExchangeIdentity + WorkersIdentity, M: Mailboxes, G: Gate, R: Wa
     #[inline(always)]
     fn after_receipt(&mut self, entry: Entry) -> Step {
         match entry {
-            Entry::Made { more, woken } => self.made(more, woken, Wake::Work),
+            Entry::Made {
+                more_mail,
+                woken_desk,
+            } => self.after_made(more_mail, woken_desk, Wake::Work),
             Entry::Refused => {
                 self.shared
-                    .fail(self.rt, &mut self.inner, Trouble::OutOfStep);
+                    .fail(self.rt, &mut self.inner_rank, Trouble::OutOfStep);
                 LEAVE
             }
             Entry::Later | Entry::Missed | Entry::Ended | Entry::Gone => LEAVE,
@@ -347,19 +357,19 @@ impl<'a, 'f, J: ExchangeIdentity + WorkersIdentity, M: Mailboxes, G: Gate, R: Wa
     fn after_look<N: Drop>(&mut self, heard: Heard<N>, desk: Desk) -> Step {
         if let Heard::Gone = heard {
             self.shared
-                .fail(self.rt, &mut self.inner, Trouble::MailGone(desk));
+                .fail(self.rt, &mut self.inner_rank, Trouble::MailGone(desk));
             return LEAVE;
         }
         let same_desk = desk;
-        let mut exchange = self.shared.lock_exchange(self.rt, &mut self.inner);
-        let waits = exchange.value().has_mail(self.inst, same_desk);
-        self.inner.give_back(exchange);
-        if !waits {
-            return Step::Stay { more: false };
+        let mut exchange = self.shared.lock_exchange(self.rt, &mut self.inner_rank);
+        let mail_waits = exchange.value().has_mail(self.inst, same_desk);
+        self.inner_rank.give_back(exchange);
+        if !mail_waits {
+            return Step::Stay { more_mail: false };
         }
         if let Heard::LogFull = heard {
             self.shared
-                .fail(self.rt, &mut self.inner, Trouble::Torn(desk));
+                .fail(self.rt, &mut self.inner_rank, Trouble::Torn(desk));
             return LEAVE;
         }
         self.miss(desk)
@@ -371,29 +381,29 @@ impl<'a, 'f, J: ExchangeIdentity + WorkersIdentity, M: Mailboxes, G: Gate, R: Wa
         self.missed = self.missed.saturating_add(1);
         if self.missed >= M::PATIENCE {
             self.shared
-                .fail(self.rt, &mut self.inner, Trouble::Torn(desk));
+                .fail(self.rt, &mut self.inner_rank, Trouble::Torn(desk));
             return LEAVE;
         }
-        if self.missed > MISSES {
+        if self.missed > MISSES_BEFORE_NAPS {
             let mut naps = Naps::FOR_WORK;
             self.shared.nap(self.rt, &mut naps);
         }
-        Step::Leave { again: true }
+        Step::Leave { visit_again: true }
     }
 
     // What a worker does after an event was entered: it notes the desk that the event woke, and makes the gate's
     // call. If the gate may keep this worker waiting, the woken desks are listed first.
     #[inline(always)]
-    fn made(&mut self, more: bool, woken: Option<u32>, wake: Wake) -> Step {
+    fn after_made(&mut self, more_mail: bool, woken_desk: Option<u32>, wake: Wake) -> Step {
         self.missed = 0;
-        if let Some(desk) = woken {
+        if let Some(desk) = woken_desk {
             self.note(desk, wake);
         }
         if G::ENTERED_MAY_HOLD {
             self.list_woken();
         }
         self.gate.entered(self.number);
-        Step::Stay { more }
+        Step::Stay { more_mail }
     }
 
     // Notes a desk that was woken. If there is no room for a further note, the desks noted so far are listed first.
@@ -414,70 +424,70 @@ impl<'a, 'f, J: ExchangeIdentity + WorkersIdentity, M: Mailboxes, G: Gate, R: Wa
         if self.woken.is_empty() {
             return;
         }
-        let mut state = self.shared.lock_state(self.rt, &mut self.inner);
-        let wakes = {
+        let mut state = self.shared.lock_state(self.rt, &mut self.inner_rank);
+        let wakes_worker = {
             state.value().shift.list_all(&mut self.woken);
             state.value().shift.wakes_one()
         };
-        self.inner.give_back(state);
-        if wakes {
+        self.inner_rank.give_back(state);
+        if wakes_worker {
             self.shared.wake_one();
         }
     }
 
     // Leaves a desk, lists the noted desks, and takes the next desk.
-    fn turn(&mut self, hand: Hand<J>, again: bool) -> Result<Hand<J>, Looking<J>> {
-        let mut state = self.shared.lock_state(self.rt, &mut self.inner);
-        let (next, wakes) = {
+    fn change_desk(&mut self, hand: Hand<J>, visit_again: bool) -> Result<Hand<J>, Looking<J>> {
+        let mut state = self.shared.lock_state(self.rt, &mut self.inner_rank);
+        let (next_turn, wakes_worker) = {
             state.value().shift.list_all(&mut self.woken);
-            let own = state.value().shift.let_go(hand, again);
+            let looking = state.value().shift.let_go(hand, visit_again);
             (
-                state.value().shift.next(own),
+                state.value().shift.next(looking),
                 state.value().shift.wakes_one(),
             )
         };
-        self.inner.give_back(state);
-        if wakes {
+        self.inner_rank.give_back(state);
+        if wakes_worker {
             self.shared.wake_one();
         }
-        self.or_search(next)
+        self.or_search(next_turn)
     }
 
     // The desk that was found, or else one that a search finds. Once the run ends, the worker's token comes back
     // instead.
-    fn or_search(&mut self, found: TurnOf<J>) -> Result<Hand<J>, Looking<J>> {
-        match found {
+    fn or_search(&mut self, turn: TurnOf<J>) -> Result<Hand<J>, Looking<J>> {
+        match turn {
             Turn::Desk(hand) => Ok(hand),
-            Turn::Nothing(own) => self.search(own),
-            Turn::Ended(own) => Err(own),
+            Turn::Nothing(looking) => self.search(looking),
+            Turn::Ended(looking) => Err(looking),
         }
     }
 
     // What a worker does if no desk is listed: it asks the core once for an event, closes an exchange at rest, or
     // rests. The worker's token comes back once the run ends or the ledger accepts no events; then the worker that
     // closed or failed ends the run.
-    fn search(&mut self, own: Looking<J>) -> Result<Hand<J>, Looking<J>> {
-        let mut own = own;
+    fn search(&mut self, looking: Looking<J>) -> Result<Hand<J>, Looking<J>> {
+        let mut looking = looking;
         for _ in self.rt.forever() {
             if self.shared.is_ending() {
-                return Err(own);
+                return Err(looking);
             }
-            let mut exchange = self.shared.lock_exchange(self.rt, &mut self.inner);
-            let found = exchange.value().close_or_find(self.inst, &mut self.tally);
-            self.inner.give_back(exchange);
-            let desk = match found {
+            let mut exchange = self.shared.lock_exchange(self.rt, &mut self.inner_rank);
+            let search_result = exchange.value().close_or_find(self.inst, &mut self.tally);
+            self.inner_rank.give_back(exchange);
+            let desk = match search_result {
                 Found::Desk(desk) => desk,
                 Found::Closed(close) => {
                     self.gate.entered(self.number);
-                    self.shared.close(self.rt, &mut self.inner, close);
-                    return Err(own);
+                    self.shared.close(self.rt, &mut self.inner_rank, close);
+                    return Err(looking);
                 }
-                Found::Ended => return Err(own),
+                Found::Ended => return Err(looking),
             };
-            match self.claim_or_look(own, desk) {
+            match self.claim_or_look(looking, desk) {
                 Turn::Desk(hand) => return Ok(hand),
-                Turn::Nothing(still) => own = still,
-                Turn::Ended(own) => return Err(own),
+                Turn::Nothing(still_looking) => looking = still_looking,
+                Turn::Ended(looking) => return Err(looking),
             }
         }
         unreachable!()
@@ -485,52 +495,52 @@ impl<'a, 'f, J: ExchangeIdentity + WorkersIdentity, M: Mailboxes, G: Gate, R: Wa
 
     // Takes this desk. If another worker has it, this worker naps a few times, looks after each nap whether a desk is
     // listed, and then rests. A worker that naps need not be woken.
-    fn claim_or_look(&mut self, own: Looking<J>, desk: u32) -> TurnOf<J> {
-        let mut state = self.shared.lock_state(self.rt, &mut self.inner);
-        let mut found = state.value().shift.claim_or_next(own, desk);
-        self.inner.give_back(state);
+    fn claim_or_look(&mut self, looking: Looking<J>, desk: u32) -> TurnOf<J> {
+        let mut state = self.shared.lock_state(self.rt, &mut self.inner_rank);
+        let mut turn = state.value().shift.claim_or_next(looking, desk);
+        self.inner_rank.give_back(state);
         let mut naps = Naps::FOR_WORK;
-        for _ in 0..LOOKS {
-            let own = match found {
-                Turn::Nothing(own) => own,
-                found => return found,
+        for _ in 0..LOOKS_BEFORE_REST {
+            let looking = match turn {
+                Turn::Nothing(looking) => looking,
+                turn => return turn,
             };
             self.shared.nap(self.rt, &mut naps);
-            found = self.next(own);
+            turn = self.next(looking);
         }
-        match found {
-            Turn::Nothing(own) => self.rest(own),
-            found => found,
+        match turn {
+            Turn::Nothing(looking) => self.rest(looking),
+            turn => turn,
         }
     }
 
     // Takes the next desk that is listed.
-    fn next(&mut self, own: Looking<J>) -> TurnOf<J> {
-        let mut state = self.shared.lock_state(self.rt, &mut self.inner);
-        let next = state.value().shift.next(own);
-        self.inner.give_back(state);
-        next
+    fn next(&mut self, looking: Looking<J>) -> TurnOf<J> {
+        let mut state = self.shared.lock_state(self.rt, &mut self.inner_rank);
+        let next_turn = state.value().shift.next(looking);
+        self.inner_rank.give_back(state);
+        next_turn
     }
 
     // Rests until a desk is listed or the run ends. If no other worker has a desk, this worker searches on instead. A
     // worker that lists desks wakes one resting worker, which wakes the next one if it leaves a desk listed.
-    fn rest(&mut self, own: Looking<J>) -> TurnOf<J> {
-        let mut state = self.shared.lock_state(self.rt, &mut self.inner);
-        let resting = match state.value().shift.rests(own) {
+    fn rest(&mut self, looking: Looking<J>) -> TurnOf<J> {
+        let mut state = self.shared.lock_state(self.rt, &mut self.inner_rank);
+        let resting = match state.value().shift.rests(looking) {
             Ok(resting) => resting,
-            Err(own) => {
-                self.inner.give_back(state);
-                return Turn::Nothing(own);
+            Err(looking) => {
+                self.inner_rank.give_back(state);
+                return Turn::Nothing(looking);
             }
         };
         let mut state = self.shared.rest(self.rt, state, &resting);
-        let own = state.value().shift.wakes(resting);
-        let next = state.value().shift.next(own);
-        let wakes = state.value().shift.wakes_one();
-        self.inner.give_back(state);
-        if wakes {
+        let looking = state.value().shift.wakes(resting);
+        let next_turn = state.value().shift.next(looking);
+        let wakes_worker = state.value().shift.wakes_one();
+        self.inner_rank.give_back(state);
+        if wakes_worker {
             self.shared.wake_one();
         }
-        next
+        next_turn
     }
 }

@@ -11,18 +11,18 @@ use std::sync::atomic::{AtomicU64, Ordering};
 pub use stopping::{StopsAtOnce, StopsBy, StopsFrom};
 
 /// How often a gate tests whether another worker has entered an event.
-const TURNS: u32 = 10_000_000;
+const MOST_TURNS: u32 = 10_000_000;
 
 /// How many turns a gate gives the other workers to finish what they have begun.
-const LINGER: u32 = 100;
+const LINGER_TURNS: u32 = 100;
 
 /// For each of at most eight workers, how many events the worker has entered, as the gate counts them.
 #[derive(Drop)]
-struct Counts([AtomicU64; 8]);
+struct EntryCounts([AtomicU64; 8]);
 
-impl Counts {
-    fn none() -> Counts {
-        Counts([
+impl EntryCounts {
+    fn none() -> EntryCounts {
+        EntryCounts([
             AtomicU64::new(0),
             AtomicU64::new(0),
             AtomicU64::new(0),
@@ -35,23 +35,23 @@ impl Counts {
     }
 
     fn add(&self, worker: usize) {
-        if let Some(count) = self.0.get(worker) {
-            count.fetch_add(1, Ordering::SeqCst);
+        if let Some(worker_count) = self.0.get(worker) {
+            worker_count.fetch_add(1, Ordering::SeqCst);
         }
     }
 
     fn of(&self, worker: usize) -> u64 {
         match self.0.get(worker) {
-            Some(count) => count.load(Ordering::SeqCst),
+            Some(worker_count) => worker_count.load(Ordering::SeqCst),
             None => 0,
         }
     }
 
     fn of_all(&self) -> u64 {
-        let mut sum = 0_u64;
-        for count in &self.0 {
-            sum = sum.saturating_add(count.load(Ordering::SeqCst));
+        let mut entry_sum = 0_u64;
+        for worker_count in &self.0 {
+            entry_sum = entry_sum.saturating_add(worker_count.load(Ordering::SeqCst));
         }
-        sum
+        entry_sum
     }
 }

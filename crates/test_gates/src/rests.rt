@@ -9,14 +9,14 @@ use std::sync::atomic::{AtomicBool, AtomicU64, Ordering};
 use std::time::Duration;
 
 /// How often a gate looks whether the other workers have done what they can; it looks once in a millisecond.
-const LOOKS: u32 = 10_000;
+const MOST_LOOKS: u32 = 10_000;
 
 /// How often a gate naps to let the other workers fall asleep. A worker that finds nothing to do naps eight times
 /// before it sleeps, and none of these naps is longer than the gate's.
-const NAPS: u32 = 50;
+const NAPS_UNTIL_ASLEEP: u32 = 50;
 
 /// The length of a gate's nap, in microseconds.
-const NAP: u64 = 4_000;
+const NAP_MICROS: u64 = 4_000;
 
 /// What a call of `pass` waits for.
 #[derive(Clone, Copy, Debug)]
@@ -50,13 +50,13 @@ pub struct UntilDone<R: Wait + Copy> {
     rt: R,
     clock: AtomicU64,
     holds: Holds,
-    entered: AtomicU64,
-    takes: AtomicU64,
-    has_begun: AtomicBool,
-    has_begun_other: AtomicBool,
-    is_armed: AtomicBool,
-    held: AtomicU64,
-    came: AtomicU64,
+    entered_events: AtomicU64,
+    take_calls: AtomicU64,
+    has_first_come: AtomicBool,
+    has_other_come: AtomicBool,
+    others_sleep: AtomicBool,
+    next_calls: AtomicU64,
+    ended_holds: AtomicU64,
     has_given_up: AtomicBool,
 }
 
@@ -67,22 +67,23 @@ impl<R: Wait + Copy> UntilDone<R> {
             rt,
             clock: AtomicU64::new(0),
             holds,
-            entered: AtomicU64::new(0),
-            takes: AtomicU64::new(0),
-            has_begun: AtomicBool::new(false),
-            has_begun_other: AtomicBool::new(false),
-            is_armed: AtomicBool::new(false),
-            held: AtomicU64::new(0),
-            came: AtomicU64::new(0),
+            entered_events: AtomicU64::new(0),
+            take_calls: AtomicU64::new(0),
+            has_first_come: AtomicBool::new(false),
+            has_other_come: AtomicBool::new(false),
+            others_sleep: AtomicBool::new(false),
+            next_calls: AtomicU64::new(0),
+            ended_holds: AtomicU64::new(0),
             has_given_up: AtomicBool::new(false),
         }
     }
 
     /// Whether each call that had to wait has waited, and the other workers did what they could meanwhile.
     pub fn has_held_all(&self) -> bool {
-        let others = self.holds.other.is_some() as u64;
-        self.is_armed.load(Ordering::SeqCst)
-            && self.came.load(Ordering::SeqCst) == self.holds.next.0.saturating_add(others)
+        let other_calls = self.holds.other.is_some() as u64;
+        self.others_sleep.load(Ordering::SeqCst)
+            && self.ended_holds.load(Ordering::SeqCst)
+                == self.holds.next.0.saturating_add(other_calls)
             && !self.has_given_up.load(Ordering::SeqCst)
     }
 
@@ -93,14 +94,14 @@ impl<R: Wait + Copy> UntilDone<R> {
 
     fn is_done(&self, until: Until) -> bool {
         match until {
-            Until::Entered(events) => self.entered.load(Ordering::SeqCst) >= events,
-            Until::Takes(calls) => self.takes.load(Ordering::SeqCst) >= calls,
+            Until::Entered(events) => self.entered_events.load(Ordering::SeqCst) >= events,
+            Until::Takes(calls) => self.take_calls.load(Ordering::SeqCst) >= calls,
         }
     }
 
     // Waits until this many events are entered, or calls for takes made. Returns false if it gave up waiting.
     fn wait(&self, until: Until) -> bool {
-        for _ in 0..LOOKS {
+        for _ in 0..MOST_LOOKS {
             if self.is_done(until) {
                 return true;
             }
@@ -117,31 +118,31 @@ impl<R: Wait + Copy> UntilDone<R> {
     // sleep.
     fn settle(&self, events: u64) {
         if self.wait(Until::Entered(events)) {
-            for _ in 0..NAPS {
-                self.nap(NAP);
+            for _ in 0..NAPS_UNTIL_ASLEEP {
+                self.nap(NAP_MICROS);
             }
-            self.is_armed.store(true, Ordering::SeqCst);
+            self.others_sleep.store(true, Ordering::SeqCst);
         }
     }
 
     // Keeps another call waiting.
     fn hold(&self, until: Until) {
         if self.wait(until) {
-            self.came.fetch_add(1, Ordering::SeqCst);
+            self.ended_holds.fetch_add(1, Ordering::SeqCst);
         }
     }
 
     // If this is the first call for the other desk, the number of events until which it waits; else none.
     fn as_other(&self, desk: Desk) -> Option<u64> {
-        let (other, events) = self.holds.other?;
-        let is_first = desk == other && !self.has_begun_other.swap(true, Ordering::SeqCst);
+        let (other_desk, events) = self.holds.other?;
+        let is_first = desk == other_desk && !self.has_other_come.swap(true, Ordering::SeqCst);
         is_first.then_some(events)
     }
 
     // Whether this call for a resident's desk is one of those that wait after the first desk's call went on.
     fn is_next(&self) -> bool {
-        self.is_armed.load(Ordering::SeqCst)
-            && self.held.fetch_add(1, Ordering::SeqCst) < self.holds.next.0
+        self.others_sleep.load(Ordering::SeqCst)
+            && self.next_calls.fetch_add(1, Ordering::SeqCst) < self.holds.next.0
     }
 }
 
@@ -155,11 +156,11 @@ impl<R: Wait + Copy + Sync> Gate for UntilDone<R> {
     fn pass(&self, _worker: usize, desk: Desk) -> Go {
         let is_take = matches!(&desk, Desk::Resident(_));
         if is_take {
-            self.takes.fetch_add(1, Ordering::SeqCst);
+            self.take_calls.fetch_add(1, Ordering::SeqCst);
             self.wait(Until::Entered(self.holds.offers));
         }
-        let (first, events) = self.holds.first;
-        if desk == first && !self.has_begun.swap(true, Ordering::SeqCst) {
+        let (first_desk, events) = self.holds.first;
+        if desk == first_desk && !self.has_first_come.swap(true, Ordering::SeqCst) {
             self.settle(events);
         } else if let Some(events) = self.as_other(desk) {
             self.hold(Until::Entered(events));
@@ -170,7 +171,7 @@ impl<R: Wait + Copy + Sync> Gate for UntilDone<R> {
     }
 
     fn entered(&self, _worker: usize) {
-        if self.entered.fetch_add(1, Ordering::SeqCst) == 0 {
+        if self.entered_events.fetch_add(1, Ordering::SeqCst) == 0 {
             self.wait(Until::Entered(self.holds.begun));
         }
     }

@@ -1,32 +1,32 @@
 //! A gate that counts the entries of workers.
 ghost use Rattle.std.specs.Prelude.{true, false};
 
-use super::Counts;
+use super::EntryCounts;
 use exchange_core::Desk;
 use match_pool::{Gate, Go};
 
 /// A gate that counts the calls of `entered` by each worker. It never stops the run.
 #[derive(Drop)]
 pub struct Counting {
-    counts: Counts,
+    entry_counts: EntryCounts,
 }
 
 impl Counting {
     /// A gate that has counted no entry yet.
     pub fn new() -> Counting {
         Counting {
-            counts: Counts::none(),
+            entry_counts: EntryCounts::none(),
         }
     }
 
     /// How many events this worker has entered.
     pub fn count(&self, worker: usize) -> u64 {
-        self.counts.of(worker)
+        self.entry_counts.of(worker)
     }
 
     /// How many events the workers have entered together.
     pub fn count_all(&self) -> u64 {
-        self.counts.of_all()
+        self.entry_counts.of_all()
     }
 }
 
@@ -40,6 +40,6 @@ impl Gate for Counting {
     }
 
     fn entered(&self, worker: usize) {
-        self.counts.add(worker);
+        self.entry_counts.add(worker);
     }
 }

@@ -1,7 +1,7 @@
 //! Gates that keep one worker waiting, or all workers but one, until the others have entered events.
 ghost use Rattle.std.specs.Prelude.{true, false};
 
-use super::{Counts, TURNS};
+use super::{EntryCounts, MOST_TURNS};
 use exchange_core::Desk;
 use match_pool::{Gate, Go};
 use std::sync::atomic::{AtomicBool, AtomicU64, Ordering};
@@ -11,52 +11,54 @@ use std::thread;
 /// events.
 #[derive(Drop)]
 pub struct Held {
-    place: u64,
-    passed: AtomicU64,
-    held: AtomicBool,
-    counts: Counts,
+    held_call: u64,
+    passed_calls: AtomicU64,
+    was_held: AtomicBool,
+    entry_counts: EntryCounts,
 }
 
 impl Held {
-    /// A new record, before the run. The call with the number `place`, counted from 0, is to be kept waiting.
-    pub fn new(place: u64) -> Held {
+    /// A new record, before the run. The call with the number `held_call`, counted from 0, is to be kept waiting.
+    pub fn new(held_call: u64) -> Held {
         Held {
-            place,
-            passed: AtomicU64::new(0),
-            held: AtomicBool::new(false),
-            counts: Counts::none(),
+            held_call,
+            passed_calls: AtomicU64::new(0),
+            was_held: AtomicBool::new(false),
+            entry_counts: EntryCounts::none(),
         }
     }
 
     /// Whether the call was kept waiting, and other workers entered events meanwhile.
     pub fn has_held(&self) -> bool {
-        self.held.load(Ordering::SeqCst)
+        self.was_held.load(Ordering::SeqCst)
     }
 
     /// How many events this worker has entered.
     pub fn count(&self, worker: usize) -> u64 {
-        self.counts.of(worker)
+        self.entry_counts.of(worker)
     }
 
     /// How many events the workers have entered together.
     pub fn count_all(&self) -> u64 {
-        self.counts.of_all()
+        self.entry_counts.of_all()
     }
 
     // How many events the other workers have entered.
     fn count_others(&self, worker: usize) -> u64 {
-        self.counts.of_all().saturating_sub(self.counts.of(worker))
+        self.entry_counts
+            .of_all()
+            .saturating_sub(self.entry_counts.of(worker))
     }
 
     // Keeps the chosen call of `pass` waiting. Returns whether the wait ended without the events of other workers.
     fn gives_up(&self, worker: usize) -> bool {
-        if self.passed.fetch_add(1, Ordering::SeqCst) != self.place {
+        if self.passed_calls.fetch_add(1, Ordering::SeqCst) != self.held_call {
             return false;
         }
         let others_at_start = self.count_others(worker);
-        for _ in 0..TURNS {
+        for _ in 0..MOST_TURNS {
             if self.count_others(worker).saturating_sub(others_at_start) >= 2 {
-                self.held.store(true, Ordering::SeqCst);
+                self.was_held.store(true, Ordering::SeqCst);
                 return false;
             }
             thread::yield_now();
@@ -80,7 +82,7 @@ impl Gate for Firm {
     }
 
     fn entered(&self, worker: usize) {
-        self.0.counts.add(worker);
+        self.0.entry_counts.add(worker);
     }
 }
 
@@ -103,7 +105,7 @@ impl Gate for Loose {
     }
 
     fn entered(&self, worker: usize) {
-        self.0.counts.add(worker);
+        self.0.entry_counts.add(worker);
     }
 }
 
@@ -126,71 +128,72 @@ pub enum Order {
 #[derive(Drop)]
 pub struct AllButOne {
     pairs: u64,
-    held: u64,
+    held_workers: u64,
     order: Order,
-    came: AtomicU64,
-    is_held: AtomicU64,
-    blocked: AtomicU64,
-    gone: AtomicU64,
-    gave_up: AtomicBool,
-    counts: Counts,
+    came_workers: AtomicU64,
+    waiting_workers: AtomicU64,
+    blocked_events: AtomicU64,
+    released_workers: AtomicU64,
+    has_given_up: AtomicBool,
+    entry_counts: EntryCounts,
 }
 
 impl AllButOne {
-    /// A gate before a run with this number of pairs, which keeps `held` workers waiting.
-    pub fn new(pairs: u64, held: u64, order: Order) -> AllButOne {
+    /// A gate before a run with this number of pairs, which keeps `held_workers` workers waiting.
+    pub fn new(pairs: u64, held_workers: u64, order: Order) -> AllButOne {
         AllButOne {
             pairs,
-            held,
+            held_workers,
             order,
-            came: AtomicU64::new(0),
-            is_held: AtomicU64::new(0),
-            blocked: AtomicU64::new(0),
-            gone: AtomicU64::new(0),
-            gave_up: AtomicBool::new(false),
-            counts: Counts::none(),
+            came_workers: AtomicU64::new(0),
+            waiting_workers: AtomicU64::new(0),
+            blocked_events: AtomicU64::new(0),
+            released_workers: AtomicU64::new(0),
+            has_given_up: AtomicBool::new(false),
+            entry_counts: EntryCounts::none(),
         }
     }
 
-    /// Whether the gate kept `held` workers waiting and released each of them, without giving up on any.
+    /// Whether the gate kept `held_workers` workers waiting and released each of them, without giving up on any.
     pub fn has_held_all(&self) -> bool {
-        self.gone.load(Ordering::SeqCst) == self.held && !self.gave_up.load(Ordering::SeqCst)
+        self.released_workers.load(Ordering::SeqCst) == self.held_workers
+            && !self.has_given_up.load(Ordering::SeqCst)
     }
 
     // The place in the order of release of the worker that came in this place.
-    fn place_of(&self, came: u64) -> u64 {
+    fn release_place_of(&self, arrival: u64) -> u64 {
         match self.order {
-            Order::FirstFirst => came,
-            Order::LastFirst => self.held.saturating_sub(came.saturating_add(1)),
-            Order::EveryOther if came % 2 == 0 => came / 2,
-            Order::EveryOther => self.held.div_ceil(2).saturating_add(came / 2),
+            Order::FirstFirst => arrival,
+            Order::LastFirst => self.held_workers.saturating_sub(arrival.saturating_add(1)),
+            Order::EveryOther if arrival % 2 == 0 => arrival / 2,
+            Order::EveryOther => self.held_workers.div_ceil(2).saturating_add(arrival / 2),
         }
     }
 
     // Whether the worker in this place is released now: all workers that the gate keeps waiting have come,
     // those before it were released, and all events possible without it are entered.
-    fn is_turn_of(&self, place: u64) -> bool {
-        let entered = self.counts.of_all();
-        let blocked = self.blocked.load(Ordering::SeqCst);
-        self.is_held.load(Ordering::SeqCst) == self.held
-            && self.gone.load(Ordering::SeqCst) == place
-            && entered.saturating_add(blocked) >= self.pairs.saturating_mul(4)
+    fn is_turn_of(&self, release_place: u64) -> bool {
+        let entered_events = self.entry_counts.of_all();
+        let blocked_events = self.blocked_events.load(Ordering::SeqCst);
+        self.waiting_workers.load(Ordering::SeqCst) == self.held_workers
+            && self.released_workers.load(Ordering::SeqCst) == release_place
+            && entered_events.saturating_add(blocked_events) >= self.pairs.saturating_mul(4)
     }
 
     // Keeps a worker waiting. `events` is the number of events that can be entered only once it goes on.
-    fn hold(&self, came: u64, events: u64) {
-        self.blocked.fetch_add(events, Ordering::SeqCst);
-        self.is_held.fetch_add(1, Ordering::SeqCst);
-        let place = self.place_of(came);
-        for _ in 0..TURNS {
-            if self.is_turn_of(place) {
-                self.blocked.fetch_sub(events, Ordering::SeqCst);
-                self.gone.fetch_add(1, Ordering::SeqCst);
+    fn hold(&self, arrival: u64, events: u64) {
+        self.blocked_events.fetch_add(events, Ordering::SeqCst);
+        self.waiting_workers.fetch_add(1, Ordering::SeqCst);
+        let release_place = self.release_place_of(arrival);
+        for _ in 0..MOST_TURNS {
+            if self.is_turn_of(release_place) {
+                self.blocked_events.fetch_sub(events, Ordering::SeqCst);
+                self.released_workers.fetch_add(1, Ordering::SeqCst);
                 return;
             }
             thread::yield_now();
         }
-        self.gave_up.store(true, Ordering::SeqCst);
+        self.has_given_up.store(true, Ordering::SeqCst);
     }
 }
 
@@ -200,19 +203,19 @@ impl Gate for AllButOne {
     const MAY_STOP: bool = false;
 
     fn pass(&self, _worker: usize, desk: Desk) -> Go {
-        let came = self.came.fetch_add(1, Ordering::SeqCst);
-        if came < self.held {
+        let arrival = self.came_workers.fetch_add(1, Ordering::SeqCst);
+        if arrival < self.held_workers {
             // the offer of a pair is entered before its take, and the answer of a pair is entered before its hear
             let events = match desk {
                 Desk::Resident(_) => 3,
                 Desk::Programme(_) => 1,
             };
-            self.hold(came, events);
+            self.hold(arrival, events);
         }
         Go::On
     }
 
     fn entered(&self, worker: usize) {
-        self.counts.add(worker);
+        self.entry_counts.add(worker);
     }
 }

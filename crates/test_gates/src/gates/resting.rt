@@ -1,7 +1,7 @@
 //! Gates that keep a worker waiting until the others are at rest, or until another worker has entered an event.
 ghost use Rattle.std.specs.Prelude.{true, false};
 
-use super::{Counts, LINGER, TURNS};
+use super::{EntryCounts, LINGER_TURNS, MOST_TURNS};
 use exchange_core::Desk;
 use match_model::{ProgrammeNo, ResidentNo};
 use match_pool::{Gate, Go};
@@ -38,65 +38,65 @@ const MOST_PAUSES: u32 = 10_000;
 pub struct Stalls<R: Wait + Copy> {
     rt: R,
     clock: AtomicU64,
-    place: u64,
-    passed: AtomicU64,
+    held_call: u64,
+    passed_calls: AtomicU64,
     worker: AtomicU64,
     is_resident: AtomicBool,
-    number: AtomicU32,
-    own: AtomicU64,
-    from: AtomicU64,
-    to: AtomicU64,
-    held: AtomicBool,
-    counts: Counts,
+    desk_number: AtomicU32,
+    worker_entered: AtomicU64,
+    entered_before: AtomicU64,
+    entered_after: AtomicU64,
+    was_held: AtomicBool,
+    entry_counts: EntryCounts,
 }
 
 impl<R: Wait + Copy> Stalls<R> {
-    /// A gate before the run. It keeps the call with the number `place` waiting, counted from 0.
-    pub fn new(rt: R, place: u64) -> Stalls<R> {
+    /// A gate before the run. It keeps the call with the number `held_call` waiting, counted from 0.
+    pub fn new(rt: R, held_call: u64) -> Stalls<R> {
         Stalls {
             rt,
             clock: AtomicU64::new(0),
-            place,
-            passed: AtomicU64::new(0),
+            held_call,
+            passed_calls: AtomicU64::new(0),
             worker: AtomicU64::new(0),
             is_resident: AtomicBool::new(false),
-            number: AtomicU32::new(0),
-            own: AtomicU64::new(0),
-            from: AtomicU64::new(0),
-            to: AtomicU64::new(0),
-            held: AtomicBool::new(false),
-            counts: Counts::none(),
+            desk_number: AtomicU32::new(0),
+            worker_entered: AtomicU64::new(0),
+            entered_before: AtomicU64::new(0),
+            entered_after: AtomicU64::new(0),
+            was_held: AtomicBool::new(false),
+            entry_counts: EntryCounts::none(),
         }
     }
 
     /// How many events this worker has entered.
     pub fn count(&self, worker: usize) -> u64 {
-        self.counts.of(worker)
+        self.entry_counts.of(worker)
     }
 
     /// What the gate noted, or none if the run made too few calls of `pass`.
     pub fn hold(&self) -> Option<Hold> {
-        if !self.held.load(Ordering::SeqCst) {
+        if !self.was_held.load(Ordering::SeqCst) {
             return None;
         }
-        let number = self.number.load(Ordering::SeqCst);
+        let desk_number = self.desk_number.load(Ordering::SeqCst);
         let desk = if self.is_resident.load(Ordering::SeqCst) {
-            Desk::Resident(ResidentNo(number))
+            Desk::Resident(ResidentNo(desk_number))
         } else {
-            Desk::Programme(ProgrammeNo(number))
+            Desk::Programme(ProgrammeNo(desk_number))
         };
         Some(Hold {
             worker: self.worker.load(Ordering::SeqCst) as usize,
             desk,
-            own: self.own.load(Ordering::SeqCst),
-            from: self.from.load(Ordering::SeqCst),
-            to: self.to.load(Ordering::SeqCst),
+            own: self.worker_entered.load(Ordering::SeqCst),
+            from: self.entered_before.load(Ordering::SeqCst),
+            to: self.entered_after.load(Ordering::SeqCst),
         })
     }
 
     // Waits until no worker has entered an event for a long time. Returns how many events were entered by then.
     fn wait_for_rest(&self) -> u64 {
-        let mut entered = self.counts.of_all();
+        let mut entered = self.entry_counts.of_all();
         let mut quiet_pauses = 0_u32;
         for _ in 0..MOST_PAUSES {
             if quiet_pauses >= PAUSES {
@@ -104,7 +104,7 @@ impl<R: Wait + Copy> Stalls<R> {
             }
             self.clock
                 .park_timeout(&self.rt, 0, Duration::from_millis(1));
-            let entered_by_now = self.counts.of_all();
+            let entered_by_now = self.entry_counts.of_all();
             quiet_pauses = if entered_by_now == entered {
                 quiet_pauses.saturating_add(1)
             } else {
@@ -118,14 +118,16 @@ impl<R: Wait + Copy> Stalls<R> {
     // Notes the worker and the desk of the call that is kept waiting.
     fn note(&self, worker: usize, desk: Desk) {
         self.worker.store(worker as u64, Ordering::SeqCst);
-        self.own.store(self.counts.of(worker), Ordering::SeqCst);
-        self.from.store(self.counts.of_all(), Ordering::SeqCst);
+        self.worker_entered
+            .store(self.entry_counts.of(worker), Ordering::SeqCst);
+        self.entered_before
+            .store(self.entry_counts.of_all(), Ordering::SeqCst);
         match desk {
             Desk::Resident(resident) => {
                 self.is_resident.store(true, Ordering::SeqCst);
-                self.number.store(resident.0, Ordering::SeqCst);
+                self.desk_number.store(resident.0, Ordering::SeqCst);
             }
-            Desk::Programme(programme) => self.number.store(programme.0, Ordering::SeqCst),
+            Desk::Programme(programme) => self.desk_number.store(programme.0, Ordering::SeqCst),
         }
     }
 }
@@ -136,17 +138,18 @@ impl<R: Wait + Copy + Sync> Gate for Stalls<R> {
     const MAY_STOP: bool = false;
 
     fn pass(&self, worker: usize, desk: Desk) -> Go {
-        if self.passed.fetch_add(1, Ordering::SeqCst) != self.place {
+        if self.passed_calls.fetch_add(1, Ordering::SeqCst) != self.held_call {
             return Go::On;
         }
         self.note(worker, desk);
-        self.to.store(self.wait_for_rest(), Ordering::SeqCst);
-        self.held.store(true, Ordering::SeqCst);
+        self.entered_after
+            .store(self.wait_for_rest(), Ordering::SeqCst);
+        self.was_held.store(true, Ordering::SeqCst);
         Go::On
     }
 
     fn entered(&self, worker: usize) {
-        self.counts.add(worker);
+        self.entry_counts.add(worker);
     }
 }
 
@@ -154,31 +157,31 @@ impl<R: Wait + Copy + Sync> Gate for Stalls<R> {
 /// ends when another worker has entered an event.
 #[derive(Drop)]
 pub struct HoldsEntered {
-    number: u64,
-    entered: AtomicU64,
-    held: AtomicBool,
-    counts: Counts,
+    event_number: u64,
+    entered_events: AtomicU64,
+    was_held: AtomicBool,
+    entry_counts: EntryCounts,
 }
 
 impl HoldsEntered {
     /// A gate that has counted no entry yet.
-    pub fn new(number: u64) -> HoldsEntered {
+    pub fn new(event_number: u64) -> HoldsEntered {
         HoldsEntered {
-            number,
-            entered: AtomicU64::new(0),
-            held: AtomicBool::new(false),
-            counts: Counts::none(),
+            event_number,
+            entered_events: AtomicU64::new(0),
+            was_held: AtomicBool::new(false),
+            entry_counts: EntryCounts::none(),
         }
     }
 
     /// How many events this worker has entered.
     pub fn count(&self, worker: usize) -> u64 {
-        self.counts.of(worker)
+        self.entry_counts.of(worker)
     }
 
     /// Whether a worker was kept waiting, and another worker entered an event meanwhile.
     pub fn has_held(&self) -> bool {
-        self.held.load(Ordering::SeqCst)
+        self.was_held.load(Ordering::SeqCst)
     }
 }
 
@@ -192,17 +195,17 @@ impl Gate for HoldsEntered {
     }
 
     fn entered(&self, worker: usize) {
-        self.counts.add(worker);
-        let before = self
-            .entered
+        self.entry_counts.add(worker);
+        let own_number = self
+            .entered_events
             .fetch_add(1, Ordering::SeqCst)
             .saturating_add(1);
-        if before != self.number {
+        if own_number != self.event_number {
             return;
         }
-        for _ in 0..TURNS {
-            if self.entered.load(Ordering::SeqCst) > before {
-                self.held.store(true, Ordering::SeqCst);
+        for _ in 0..MOST_TURNS {
+            if self.entered_events.load(Ordering::SeqCst) > own_number {
+                self.was_held.store(true, Ordering::SeqCst);
                 return;
             }
             thread::yield_now();
@@ -216,9 +219,9 @@ impl Gate for HoldsEntered {
 #[derive(Drop)]
 pub struct HoldsVisit {
     has_begun: AtomicBool,
-    worker: AtomicU64,
-    held: AtomicBool,
-    counts: Counts,
+    first_worker: AtomicU64,
+    was_held: AtomicBool,
+    entry_counts: EntryCounts,
 }
 
 impl HoldsVisit {
@@ -226,21 +229,26 @@ impl HoldsVisit {
     pub fn new() -> HoldsVisit {
         HoldsVisit {
             has_begun: AtomicBool::new(false),
-            worker: AtomicU64::new(0),
-            held: AtomicBool::new(false),
-            counts: Counts::none(),
+            first_worker: AtomicU64::new(0),
+            was_held: AtomicBool::new(false),
+            entry_counts: EntryCounts::none(),
         }
     }
 
     /// Whether the worker was kept waiting at its second event, and another worker entered an event meanwhile.
     pub fn has_held(&self) -> bool {
-        self.held.load(Ordering::SeqCst)
+        self.was_held.load(Ordering::SeqCst)
     }
 
     // Waits until other workers have entered this number of events. Returns whether they have.
-    fn wait_for_others(&self, worker: usize, count: u64) -> bool {
-        for _ in 0..TURNS {
-            if self.counts.of_all().saturating_sub(self.counts.of(worker)) >= count {
+    fn wait_for_others(&self, worker: usize, event_count: u64) -> bool {
+        for _ in 0..MOST_TURNS {
+            if self
+                .entry_counts
+                .of_all()
+                .saturating_sub(self.entry_counts.of(worker))
+                >= event_count
+            {
                 return true;
             }
             thread::yield_now();
@@ -259,28 +267,28 @@ impl Gate for HoldsVisit {
     }
 
     fn entered(&self, worker: usize) {
-        self.counts.add(worker);
+        self.entry_counts.add(worker);
         if !self.has_begun.swap(true, Ordering::SeqCst) {
-            self.worker.store(worker as u64, Ordering::SeqCst);
+            self.first_worker.store(worker as u64, Ordering::SeqCst);
             self.wait_for_others(worker, 2);
-            for _ in 0..LINGER {
+            for _ in 0..LINGER_TURNS {
                 thread::yield_now();
             }
-        } else if self.worker.load(Ordering::SeqCst) == worker as u64
-            && self.counts.of(worker) == 2
+        } else if self.first_worker.load(Ordering::SeqCst) == worker as u64
+            && self.entry_counts.of(worker) == 2
             && self.wait_for_others(worker, 3)
         {
-            self.held.store(true, Ordering::SeqCst);
+            self.was_held.store(true, Ordering::SeqCst);
         }
     }
 }
 
 /// For how long, in microseconds, a gate waits for the other workers to come to rest. Meanwhile each worker that
 /// found nothing to do has looked again.
-const WHILE: u64 = 20_000;
+const REST_MICROS: u64 = 20_000;
 
 /// How often a gate tests, with a pause between two tests, whether another worker has entered an event.
-const LOOKS: u32 = 150;
+const MOST_LOOKS: u32 = 150;
 
 /// A gate that keeps each receipt of one desk waiting for a while. At the next entry of that receipt's worker it
 /// keeps the worker waiting until another worker has entered an event. After that it keeps no worker waiting.
@@ -289,11 +297,11 @@ pub struct Rested<R: Wait + Copy> {
     rt: R,
     clock: AtomicU64,
     desk: Desk,
-    worker: AtomicU64,
-    own: AtomicU64,
-    others: AtomicU64,
-    held: AtomicBool,
-    counts: Counts,
+    receipt_worker: AtomicU64,
+    next_own_entry: AtomicU64,
+    others_entered: AtomicU64,
+    was_held: AtomicBool,
+    entry_counts: EntryCounts,
 }
 
 impl<R: Wait + Copy> Rested<R> {
@@ -303,34 +311,36 @@ impl<R: Wait + Copy> Rested<R> {
             rt,
             clock: AtomicU64::new(0),
             desk,
-            worker: AtomicU64::new(0),
-            own: AtomicU64::new(0),
-            others: AtomicU64::new(0),
-            held: AtomicBool::new(false),
-            counts: Counts::none(),
+            receipt_worker: AtomicU64::new(0),
+            next_own_entry: AtomicU64::new(0),
+            others_entered: AtomicU64::new(0),
+            was_held: AtomicBool::new(false),
+            entry_counts: EntryCounts::none(),
         }
     }
 
     /// Whether a worker was kept waiting at an entry, and another worker entered an event meanwhile.
     pub fn has_held(&self) -> bool {
-        self.held.load(Ordering::SeqCst)
+        self.was_held.load(Ordering::SeqCst)
     }
 
     fn sleep(&self) {
         self.clock
-            .park_timeout(&self.rt, 0, Duration::from_micros(WHILE));
+            .park_timeout(&self.rt, 0, Duration::from_micros(REST_MICROS));
     }
 
     // How many events the other workers have entered.
-    fn of_others(&self, worker: usize) -> u64 {
-        self.counts.of_all().saturating_sub(self.counts.of(worker))
+    fn entered_by_others(&self, worker: usize) -> u64 {
+        self.entry_counts
+            .of_all()
+            .saturating_sub(self.entry_counts.of(worker))
     }
 
     // Waits until another worker has entered an event.
     fn hold(&self, worker: usize) {
-        for _ in 0..LOOKS {
-            if self.of_others(worker) > self.others.load(Ordering::SeqCst) {
-                self.held.store(true, Ordering::SeqCst);
+        for _ in 0..MOST_LOOKS {
+            if self.entered_by_others(worker) > self.others_entered.load(Ordering::SeqCst) {
+                self.was_held.store(true, Ordering::SeqCst);
                 return;
             }
             self.sleep();
@@ -348,21 +358,22 @@ impl<R: Wait + Copy + Sync> Gate for Rested<R> {
             return Go::On;
         }
         if desk == self.desk {
-            let next = self.counts.of(worker).saturating_add(2);
-            self.worker.store(worker as u64, Ordering::SeqCst);
-            self.own.store(next, Ordering::SeqCst);
+            let next_entry = self.entry_counts.of(worker).saturating_add(2);
+            self.receipt_worker.store(worker as u64, Ordering::SeqCst);
+            self.next_own_entry.store(next_entry, Ordering::SeqCst);
             self.sleep();
-            self.others.store(self.of_others(worker), Ordering::SeqCst);
-        } else if self.worker.load(Ordering::SeqCst) == worker as u64 {
-            self.own.store(0, Ordering::SeqCst);
+            self.others_entered
+                .store(self.entered_by_others(worker), Ordering::SeqCst);
+        } else if self.receipt_worker.load(Ordering::SeqCst) == worker as u64 {
+            self.next_own_entry.store(0, Ordering::SeqCst);
         }
         Go::On
     }
 
     fn entered(&self, worker: usize) {
-        self.counts.add(worker);
-        let is_next = self.counts.of(worker) == self.own.load(Ordering::SeqCst);
-        if is_next && self.worker.load(Ordering::SeqCst) == worker as u64 {
+        self.entry_counts.add(worker);
+        let is_next = self.entry_counts.of(worker) == self.next_own_entry.load(Ordering::SeqCst);
+        if is_next && self.receipt_worker.load(Ordering::SeqCst) == worker as u64 {
             self.hold(worker);
         }
     }
@@ -373,9 +384,9 @@ impl<R: Wait + Copy + Sync> Gate for Rested<R> {
 #[derive(Drop)]
 pub struct AfterAnother {
     desk: Desk,
-    waits: AtomicBool,
-    passed: AtomicBool,
-    held: AtomicBool,
+    another_waits: AtomicBool,
+    has_passed: AtomicBool,
+    was_held: AtomicBool,
 }
 
 impl AfterAnother {
@@ -383,21 +394,21 @@ impl AfterAnother {
     pub fn new(desk: Desk) -> AfterAnother {
         AfterAnother {
             desk,
-            waits: AtomicBool::new(false),
-            passed: AtomicBool::new(false),
-            held: AtomicBool::new(false),
+            another_waits: AtomicBool::new(false),
+            has_passed: AtomicBool::new(false),
+            was_held: AtomicBool::new(false),
         }
     }
 
     /// Whether a call of `pass` was kept waiting, and a call for this desk was made meanwhile.
     pub fn has_held(&self) -> bool {
-        self.held.load(Ordering::SeqCst)
+        self.was_held.load(Ordering::SeqCst)
     }
 }
 
 // Waits until the flag is set, or until a long time has passed.
 fn wait_for(flag: &AtomicBool) -> bool {
-    for _ in 0..TURNS {
+    for _ in 0..MOST_TURNS {
         if flag.load(Ordering::SeqCst) {
             return true;
         }
@@ -408,7 +419,7 @@ fn wait_for(flag: &AtomicBool) -> bool {
 
 // Lets the other workers go on for a while.
 fn linger() {
-    for _ in 0..20 * LINGER {
+    for _ in 0..20 * LINGER_TURNS {
         thread::yield_now();
     }
 }
@@ -420,11 +431,11 @@ impl Gate for AfterAnother {
 
     fn pass(&self, _worker: usize, desk: Desk) -> Go {
         if desk == self.desk {
-            wait_for(&self.waits);
-            self.passed.store(true, Ordering::SeqCst);
-        } else if !self.waits.swap(true, Ordering::SeqCst) && wait_for(&self.passed) {
+            wait_for(&self.another_waits);
+            self.has_passed.store(true, Ordering::SeqCst);
+        } else if !self.another_waits.swap(true, Ordering::SeqCst) && wait_for(&self.has_passed) {
             linger();
-            self.held.store(true, Ordering::SeqCst);
+            self.was_held.store(true, Ordering::SeqCst);
         }
         Go::On
     }

@@ -1,7 +1,7 @@
 //! Gates that stop a run.
 ghost use Rattle.std.specs.Prelude.{true, false};
 
-use super::{Counts, LINGER};
+use super::{EntryCounts, LINGER_TURNS};
 use exchange_core::Desk;
 use match_pool::{Gate, Go};
 use std::sync::Wait;
@@ -30,21 +30,21 @@ impl Gate for StopsAtOnce {
 /// events, or until no worker has entered an event for a long time.
 #[derive(Drop)]
 pub struct StopsFrom {
-    first: u64,
-    passed: AtomicU64,
-    stopped: [AtomicBool; 8],
-    is_over: AtomicBool,
-    counts: Counts,
-    later: Counts,
+    first_stop: u64,
+    passed_calls: AtomicU64,
+    stopped_workers: [AtomicBool; 8],
+    has_stop_begun: AtomicBool,
+    entry_counts: EntryCounts,
+    later_entries: EntryCounts,
 }
 
 impl StopsFrom {
     /// A gate that has counted no call yet.
-    pub fn new(first: u64) -> StopsFrom {
+    pub fn new(first_stop: u64) -> StopsFrom {
         StopsFrom {
-            first,
-            passed: AtomicU64::new(0),
-            stopped: [
+            first_stop,
+            passed_calls: AtomicU64::new(0),
+            stopped_workers: [
                 AtomicBool::new(false),
                 AtomicBool::new(false),
                 AtomicBool::new(false),
@@ -54,21 +54,21 @@ impl StopsFrom {
                 AtomicBool::new(false),
                 AtomicBool::new(false),
             ],
-            is_over: AtomicBool::new(false),
-            counts: Counts::none(),
-            later: Counts::none(),
+            has_stop_begun: AtomicBool::new(false),
+            entry_counts: EntryCounts::none(),
+            later_entries: EntryCounts::none(),
         }
     }
 
     /// How many events this worker has entered.
     pub fn count(&self, worker: usize) -> u64 {
-        self.counts.of(worker)
+        self.entry_counts.of(worker)
     }
 
     /// Whether each worker entered at most one event after a stopped worker had entered its event.
     pub fn all_ended(&self) -> bool {
         for worker in 0..8 {
-            if self.later.of(worker) > 1 {
+            if self.later_entries.of(worker) > 1 {
                 return false;
             }
         }
@@ -76,8 +76,8 @@ impl StopsFrom {
     }
 
     fn is_stopped(&self, worker: usize) -> bool {
-        match self.stopped.get(worker) {
-            Some(stopped) => stopped.load(Ordering::SeqCst),
+        match self.stopped_workers.get(worker) {
+            Some(has_stopped) => has_stopped.load(Ordering::SeqCst),
             None => false,
         }
     }
@@ -89,23 +89,28 @@ impl Gate for StopsFrom {
     const MAY_STOP: bool = true;
 
     fn pass(&self, worker: usize, _desk: Desk) -> Go {
-        if self.passed.fetch_add(1, Ordering::SeqCst).saturating_add(1) < self.first {
+        if self
+            .passed_calls
+            .fetch_add(1, Ordering::SeqCst)
+            .saturating_add(1)
+            < self.first_stop
+        {
             return Go::On;
         }
-        if let Some(stopped) = self.stopped.get(worker) {
-            stopped.store(true, Ordering::SeqCst);
+        if let Some(has_stopped) = self.stopped_workers.get(worker) {
+            has_stopped.store(true, Ordering::SeqCst);
         }
         Go::Stop
     }
 
     fn entered(&self, worker: usize) {
-        self.counts.add(worker);
-        if self.is_over.load(Ordering::SeqCst) {
-            self.later.add(worker);
+        self.entry_counts.add(worker);
+        if self.has_stop_begun.load(Ordering::SeqCst) {
+            self.later_entries.add(worker);
             return;
         }
-        if self.is_stopped(worker) && !self.is_over.swap(true, Ordering::SeqCst) {
-            for _ in 0..LINGER {
+        if self.is_stopped(worker) && !self.has_stop_begun.swap(true, Ordering::SeqCst) {
+            for _ in 0..LINGER_TURNS {
                 if !self.all_ended() {
                     return;
                 }
@@ -116,10 +121,10 @@ impl Gate for StopsFrom {
 }
 
 /// For how long, in microseconds, a gate waits for the other workers to come to rest before it stops the run.
-const WHILE: u64 = 200_000;
+const REST_MICROS: u64 = 200_000;
 
 /// How often a gate tests whether the run is stopped, with a pause of a millisecond between two tests.
-const LOOKS: u32 = 10_000;
+const MOST_LOOKS: u32 = 10_000;
 
 /// A gate that stops the run in the first call of `pass` by one worker, after a wait in which each worker without a
 /// desk comes to rest. Calls by other workers are kept waiting until the run is stopped.
@@ -127,18 +132,18 @@ const LOOKS: u32 = 10_000;
 pub struct StopsBy<R: Wait + Copy> {
     rt: R,
     clock: AtomicU64,
-    worker: Option<usize>,
-    stopped: AtomicBool,
+    stopping_worker: Option<usize>,
+    is_stopped: AtomicBool,
 }
 
 impl<R: Wait + Copy> StopsBy<R> {
     /// A gate before a run. This worker stops the run, or any worker if none is given.
-    pub fn new(rt: R, worker: Option<usize>) -> StopsBy<R> {
+    pub fn new(rt: R, stopping_worker: Option<usize>) -> StopsBy<R> {
         StopsBy {
             rt,
             clock: AtomicU64::new(0),
-            worker,
-            stopped: AtomicBool::new(false),
+            stopping_worker,
+            is_stopped: AtomicBool::new(false),
         }
     }
 
@@ -154,13 +159,13 @@ impl<R: Wait + Copy + Sync> Gate for StopsBy<R> {
     const MAY_STOP: bool = true;
 
     fn pass(&self, worker: usize, _desk: Desk) -> Go {
-        if self.worker.unwrap_or(worker) == worker {
-            self.sleep(WHILE);
-            self.stopped.store(true, Ordering::SeqCst);
+        if self.stopping_worker.unwrap_or(worker) == worker {
+            self.sleep(REST_MICROS);
+            self.is_stopped.store(true, Ordering::SeqCst);
             return Go::Stop;
         }
-        for _ in 0..LOOKS {
-            if self.stopped.load(Ordering::SeqCst) {
+        for _ in 0..MOST_LOOKS {
+            if self.is_stopped.load(Ordering::SeqCst) {
                 break;
             }
             self.sleep(1_000);

@@ -7,4 +7,4 @@ abbrev pub ghosts-run_named-J-ExchangeIdentity : goal.ghosts-run_named-J-Exchang
 ghosts-run_named-J-ExchangeIdentity g a = record { inst = a.inst.now; cap = a.cap; workers = a.workers }
 
 abbrev pub ghosts-run_named-J-WorkersIdentity : goal.ghosts-run_named-J-WorkersIdentity
-ghosts-run_named-J-WorkersIdentity g a = record { holding = a.blanks.workers.holding.name; looking = a.blanks.workers.looking.name; resting = a.blanks.workers.resting.name; ranks = a.blanks.workers.ranks.name }
+ghosts-run_named-J-WorkersIdentity g a = record { holding_ledger = a.blanks.workers.holding.name; looking_ledger = a.blanks.workers.looking.name; resting_ledger = a.blanks.workers.resting.name; rank_ledger = a.blanks.workers.ranks.name }

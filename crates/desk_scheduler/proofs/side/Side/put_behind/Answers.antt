@@ -7,4 +7,4 @@ pub push_reserved-requires : goal.push_reserved-requires
 push_reserved-requires c =
     let none = subst (λ (s : Desks). times (place_of s c.args.desk) ≡ 0) (sym c.self.view_is) c.requires.unlisted in
     let within = subst (λ (s : Desks). c.args.desk < length s.places) (sym c.self.view_is) c.requires.within in
-    omega (arith, has_room c.self.inside.places.items c.self.inside.behind.items c.self.inside.listed.items _ _ c.args.desk (swapped _ _ _ _ _ c.self.invariant) within none)
+    omega (arith, has_room c.self.inside.places.items c.self.inside.second_tier.items c.self.inside.first_tier.items _ _ c.args.desk (swapped _ _ _ _ _ c.self.invariant) within none)

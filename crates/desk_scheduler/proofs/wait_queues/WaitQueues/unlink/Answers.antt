@@ -10,27 +10,27 @@ required now view d m is waits = subst (λ (w : Waits). linked_at w.mailbox d �
 pub overflow_sub-self : goal.overflow_sub-self
 overflow_sub-self c =
     let s = c.self.inside in
-    let w : Waits = record { first = s.first.items; last = s.last.items; mailbox = s.mailbox.items; before = s.before.items; behind = s.behind.items; called = s.called.items } in
+    let w : Waits = record { first = s.first_desks.items; last = s.last_desks.items; mailbox = s.mailboxes.items; before = s.desks_before.items; behind = s.desks_behind.items; called = s.called_desks.items } in
     let waits = required c.args.self.now w c.args.desk c.args.mailbox c.self.view_is c.requires.waits in
-    omega (arith, some_waits w s.count c.args.mailbox c.args.desk c.self.invariant waits)
+    omega (arith, some_waits w s.waiting_count c.args.mailbox c.args.desk c.self.invariant waits)
 
 pub invariant_of-self : goal.invariant_of-self
 invariant_of-self c =
     let s = c.self.inside in
-    let w : Waits = record { first = s.first.items; last = s.last.items; mailbox = s.mailbox.items; before = s.before.items; behind = s.behind.items; called = s.called.items } in
+    let w : Waits = record { first = s.first_desks.items; last = s.last_desks.items; mailbox = s.mailboxes.items; before = s.desks_before.items; behind = s.desks_behind.items; called = s.called_desks.items } in
     let waits = required c.args.self.now w c.args.desk c.args.mailbox c.self.view_is c.requires.waits in
-    let new : Waits = record { first = c.relink.new.ends.items; last = c.relink-2.new.ends.items; mailbox = c.link.new.row.items; before = c.relink-2.new.links.items; behind = c.relink.new.links.items; called = s.called.items } in
+    let new : Waits = record { first = c.relink.new.queue_ends.items; last = c.relink-2.new.queue_ends.items; mailbox = c.link.new.links.items; before = c.relink-2.new.links.items; behind = c.relink.new.links.items; called = s.called_desks.items } in
     let rows : new ≡ left_rows w c.args.mailbox c.args.desk = search rules in
-    let some : 1 ≤ s.count = some_waits w s.count c.args.mailbox c.args.desk c.self.invariant waits in
-    subst (λ (v : Waits). AreQueues v (s.count - 1)) (sym rows) (left_queues w s.count c.args.mailbox c.args.desk c.self.invariant waits (s.count - 1) (omega (arith, some)))
+    let some : 1 ≤ s.waiting_count = some_waits w s.waiting_count c.args.mailbox c.args.desk c.self.invariant waits in
+    subst (λ (v : Waits). AreQueues v (s.waiting_count - 1)) (sym rows) (left_queues w s.waiting_count c.args.mailbox c.args.desk c.self.invariant waits (s.waiting_count - 1) (omega (arith, some)))
 
 pub returns-clause-queues : goal.returns-clause-queues
 returns-clause-queues c =
     let s = c.self.inside in
-    let w : Waits = record { first = s.first.items; last = s.last.items; mailbox = s.mailbox.items; before = s.before.items; behind = s.behind.items; called = s.called.items } in
+    let w : Waits = record { first = s.first_desks.items; last = s.last_desks.items; mailbox = s.mailboxes.items; before = s.desks_before.items; behind = s.desks_behind.items; called = s.called_desks.items } in
     let waits = required c.args.self.now w c.args.desk c.args.mailbox c.self.view_is c.requires.waits in
-    let new : Waits = record { first = c.relink.new.ends.items; last = c.relink-2.new.ends.items; mailbox = c.link.new.row.items; before = c.relink-2.new.links.items; behind = c.relink.new.links.items; called = s.called.items } in
+    let new : Waits = record { first = c.relink.new.queue_ends.items; last = c.relink-2.new.queue_ends.items; mailbox = c.link.new.links.items; before = c.relink-2.new.links.items; behind = c.relink.new.links.items; called = s.called_desks.items } in
     let rows : new ≡ left_rows w c.args.mailbox c.args.desk = search rules in
     subst (λ (u : Waits). (m : ℕ) → queue_of new m ≡ without c.args.desk (queue_of u m)) c.self.view_is
     (subst (λ (v : Waits). (m : ℕ) → queue_of v m ≡ without c.args.desk (queue_of w m)) (sym rows)
-    (left_without w s.count c.args.mailbox c.args.desk c.self.invariant waits))
+    (left_without w s.waiting_count c.args.mailbox c.args.desk c.self.invariant waits))

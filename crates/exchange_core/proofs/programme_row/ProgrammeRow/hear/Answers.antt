@@ -20,7 +20,7 @@ recounted-self-inside-requires-clause-counted c passes =
     let seats : List ProgrammeSeat = c.self.inside.seats.items in
     let seat : ProgrammeSeat = c.index_mut-seat.result.now in
     let h = index_within (shown_programme notes) seats c.args.self.now c.programme.inside.0 c.args.programme c.self.view_is c.programme.view_is c.requires in
-    counted_one has_answers (shown_programme notes) seats c.programme.inside.0 c.self.inside.with_answers seat h c.index_mut-seat.ensures.value c.self.invariant.answers_counted
+    counted_one has_answers (shown_programme notes) seats c.programme.inside.0 c.self.inside.programmes_with_answers seat h c.index_mut-seat.ensures.value c.self.invariant.answers_counted
     _ (waits answer_of notes seat.part) passes
 
 pub recounted-self-inside-requires-2-clause-counted : goal.recounted-self-inside-requires-2-clause-counted
@@ -29,8 +29,8 @@ recounted-self-inside-requires-2-clause-counted c passes =
     let seats : List ProgrammeSeat = c.self.inside.seats.items in
     let seat : ProgrammeSeat = c.index_mut-seat.result.now in
     let h = index_within (shown_programme notes) seats c.args.self.now c.programme.inside.0 c.args.programme c.self.view_is c.programme.view_is c.requires in
-    counted_one has_wish (shown_programme notes) seats c.programme.inside.0 c.self.inside.with_wish seat h c.index_mut-seat.ensures.value c.self.invariant.wishes_counted
-    _ c.has_wish-wished.ensures passes
+    counted_one has_wish (shown_programme notes) seats c.programme.inside.0 c.self.inside.programmes_with_wish seat h c.index_mut-seat.ensures.value c.self.invariant.wishes_counted
+    _ c.has_wish-had_wish.ensures passes
 
 pub invariant_of-self : goal.invariant_of-self
 invariant_of-self c =
@@ -40,15 +40,15 @@ invariant_of-self c =
     let seat : ProgrammeSeat = c.index_mut-seat.result.now in
     let h = index_within (shown_programme notes) seats c.args.self.now c.programme.inside.0 c.args.programme c.self.view_is c.programme.view_is c.requires in
     let ring = ring_at part shown_programme seats c.programme.inside.0 seat h c.index_mut-seat.ensures.value c.self.invariant.rings in
-    let new : ProgrammeSeat = record { part = c.pop.new.self; offered = seat.offered; out = c.out_after-seat.result; places = seat.places; listed = seat.listed } in
+    let new : ProgrammeSeat = record { part = c.pop.new.self; offers_made = seat.offers_made; offers_out = c.out_after-seat.result; places = seat.places; list_length = seat.list_length } in
     record {
       laid = laid_set part shown_programme seats (length notes) c.programme.inside.0 seat _ c.index_mut-seat.ensures.value (ap span c.pop.ensures ∙ span_popped seat.part) c.self.invariant.laid;
       rings = rings_set part shown_programme seats c.programme.inside.0 _ (subst IsRing (sym c.pop.ensures) (ring_popped seat.part ring)) c.self.invariant.rings;
       few = omega (arith, c.self.invariant.few, length-set seats c.programme.inside.0 new);
-      answers_counted = counted_set has_answers (shown_programme notes) seats c.programme.inside.0 c.self.inside.with_answers seat h c.index_mut-seat.ensures.value c.self.invariant.answers_counted new c.recounted-self-inside.result
+      answers_counted = counted_set has_answers (shown_programme notes) seats c.programme.inside.0 c.self.inside.programmes_with_answers seat h c.index_mut-seat.ensures.value c.self.invariant.answers_counted new c.recounted-self-inside.result
           _ _ (waits answer_of notes seat.part) (waits answer_of notes c.pop.new.self) c.recounted-self-inside.ensures;
-      wishes_counted = counted_set has_wish (shown_programme notes) seats c.programme.inside.0 c.self.inside.with_wish seat h c.index_mut-seat.ensures.value c.self.invariant.wishes_counted new c.recounted-self-inside-2.result
-          _ _ c.has_wish-wished.ensures c.has_wish-wishes.ensures c.recounted-self-inside-2.ensures;
+      wishes_counted = counted_set has_wish (shown_programme notes) seats c.programme.inside.0 c.self.inside.programmes_with_wish seat h c.index_mut-seat.ensures.value c.self.invariant.wishes_counted new c.recounted-self-inside-2.result
+          _ _ c.has_wish-had_wish.ensures c.has_wish-still_has_wish.ensures c.recounted-self-inside-2.ensures;
     }
 
 pub returns : goal.returns
@@ -59,7 +59,7 @@ returns c =
     let seat : ProgrammeSeat = c.index_mut-seat.result.now in
     let h = index_within (shown_programme notes) seats c.args.self.now c.programme.inside.0 c.args.programme c.self.view_is c.programme.view_is c.requires in
     let ring = ring_at part shown_programme seats c.programme.inside.0 seat h c.index_mut-seat.ensures.value c.self.invariant.rings in
-    let new : ProgrammeSeat = record { part = c.pop.new.self; offered = seat.offered; out = c.out_after-seat.result; places = seat.places; listed = seat.listed } in
+    let new : ProgrammeSeat = record { part = c.pop.new.self; offers_made = seat.offers_made; offers_out = c.out_after-seat.result; places = seat.places; list_length = seat.list_length } in
     changed (shown_programme notes) seats c.args.self.now c.programme.inside.0 c.args.programme seat new (λ (s : ProgrammeLeft). heard_answer s (c.args.resident, c.args.kind)) (opened_programme 0 0 0)
     c.self.view_is c.programme.view_is c.requires c.index_mut-seat.ensures.value
     (same_programme_left (shown_programme notes new) (heard_answer (shown_programme notes seat) (c.args.resident, c.args.kind)) refl c.out_after-seat.ensures

@@ -39,7 +39,7 @@ recounted-self-inside-requires-clause-counted c passes =
     let seats : List ProgrammeSeat = c.self.inside.seats.items in
     let seat : ProgrammeSeat = c.index_mut-seat.result.now in
     let h = index_within (shown_programme notes) seats c.args.self.now c.programme.inside.0 c.args.programme c.self.view_is c.programme.view_is c.requires.member in
-    counted_one has_answers (shown_programme notes) seats c.programme.inside.0 c.self.inside.with_answers seat h c.index_mut-seat.ensures.value c.self.invariant.answers_counted
+    counted_one has_answers (shown_programme notes) seats c.programme.inside.0 c.self.inside.programmes_with_answers seat h c.index_mut-seat.ensures.value c.self.invariant.answers_counted
     _ (waits answer_of notes seat.part) passes
 
 pub invariant_of-self : goal.invariant_of-self
@@ -51,7 +51,7 @@ invariant_of-self c =
     let h = index_within (shown_programme notes) seats c.args.self.now c.programme.inside.0 c.args.programme c.self.view_is c.programme.view_is c.requires.member in
     let more = room_left notes seats c.args.self.now c.programme.inside.0 c.args.programme seat c.self.view_is c.programme.view_is c.requires.member c.index_mut-seat.ensures.value c.requires.room in
     let ring = ring_at part shown_programme seats c.programme.inside.0 seat h c.index_mut-seat.ensures.value c.self.invariant.rings in
-    let new : ProgrammeSeat = record { part = c.push.new.self; offered = seat.offered; out = seat.out; places = seat.places; listed = seat.listed } in
+    let new : ProgrammeSeat = record { part = c.push.new.self; offers_made = seat.offers_made; offers_out = seat.offers_out; places = seat.places; list_length = seat.list_length } in
     let written : List ℕ = slice_set notes (place_in seat.part seat.part.len) c.note_of.result in
     let after : List ℕ → List ProgrammeLeft = λ xs. map (shown_programme xs) (slice_set seats c.programme.inside.0 new) in
     let rows : after c.push.new.notes.items ≡ slice_set (map (shown_programme notes) seats) c.programme.inside.0 (shown_programme written new) =
@@ -63,11 +63,11 @@ invariant_of-self c =
           (subst (λ (n : ℕ). AreLaid (map programme_span seats) n) (sym (ap (λ (xs : List ℕ). length xs) c.push.ensures.notes ∙ length-set notes (place_in seat.part seat.part.len) c.note_of.result)) c.self.invariant.laid);
       rings = rings_set part shown_programme seats c.programme.inside.0 new (subst IsRing (sym c.push.ensures.part) (ring_pushed seat.part ring more)) c.self.invariant.rings;
       few = omega (arith, c.self.invariant.few, length-set seats c.programme.inside.0 new);
-      answers_counted = counted_anew has_answers (shown_programme notes) seats c.programme.inside.0 c.self.inside.with_answers seat h c.index_mut-seat.ensures.value c.self.invariant.answers_counted
+      answers_counted = counted_anew has_answers (shown_programme notes) seats c.programme.inside.0 c.self.inside.programmes_with_answers seat h c.index_mut-seat.ensures.value c.self.invariant.answers_counted
           (after c.push.new.notes.items) (shown_programme written new) c.recounted-self-inside.result _ true rows (waits answer_of notes seat.part)
           (sym (lt-ltb 0 c.push.new.self.len (omega (arith, ap (λ (p : Part). p.len) c.push.ensures.part))) ∙ waits answer_of written c.push.new.self) c.recounted-self-inside.ensures;
-      wishes_counted = counted_anew has_wish (shown_programme notes) seats c.programme.inside.0 c.self.inside.with_wish seat h c.index_mut-seat.ensures.value c.self.invariant.wishes_counted
-          (after c.push.new.notes.items) (shown_programme written new) c.self.inside.with_wish _ _ rows refl refl refl;
+      wishes_counted = counted_anew has_wish (shown_programme notes) seats c.programme.inside.0 c.self.inside.programmes_with_wish seat h c.index_mut-seat.ensures.value c.self.invariant.wishes_counted
+          (after c.push.new.notes.items) (shown_programme written new) c.self.inside.programmes_with_wish _ _ rows refl refl refl;
     }
 
 pub returns : goal.returns
@@ -79,7 +79,7 @@ returns c =
     let h = index_within (shown_programme notes) seats c.args.self.now c.programme.inside.0 c.args.programme c.self.view_is c.programme.view_is c.requires.member in
     let more = room_left notes seats c.args.self.now c.programme.inside.0 c.args.programme seat c.self.view_is c.programme.view_is c.requires.member c.index_mut-seat.ensures.value c.requires.room in
     let ring = ring_at part shown_programme seats c.programme.inside.0 seat h c.index_mut-seat.ensures.value c.self.invariant.rings in
-    let new : ProgrammeSeat = record { part = c.push.new.self; offered = seat.offered; out = seat.out; places = seat.places; listed = seat.listed } in
+    let new : ProgrammeSeat = record { part = c.push.new.self; offers_made = seat.offers_made; offers_out = seat.offers_out; places = seat.places; list_length = seat.list_length } in
     let first = now_at (shown_programme notes) seats (map (shown_programme notes) seats) c.programme.inside.0 c.programme.inside.0 seat (opened_programme 0 0 0) refl refl (omega (arith, h, length-map seats (shown_programme notes))) c.index_mut-seat.ensures.value in
     let written : List ℕ = slice_set notes (place_in seat.part seat.part.len) c.note_of.result in
     let answer : Answered = (c.args.resident, c.args.kind) in

@@ -17,8 +17,8 @@ recounted-self-inside-requires-clause-counted c passes =
     let seats : List ResidentSeat = c.self.inside.seats.items in
     let seat : ResidentSeat = c.index_mut-seat.result.now in
     let h = index_within (shown_resident notes) seats c.args.self.now c.resident.inside.0 c.args.resident c.self.view_is c.resident.view_is c.requires in
-    counted_one has_due (shown_resident notes) seats c.resident.inside.0 c.self.inside.with_due seat h c.index_mut-seat.ensures.value c.self.invariant.due_counted
-    _ (c.is_some-owed.ensures ∙ owes seat.first_due seat.second_due) passes
+    counted_one has_due (shown_resident notes) seats c.resident.inside.0 c.self.inside.residents_with_due seat h c.index_mut-seat.ensures.value c.self.invariant.due_counted
+    _ (c.is_some-owed_answer.ensures ∙ owes seat.first_due seat.second_due) passes
 
 pub invariant_of-self : goal.invariant_of-self
 invariant_of-self c =
@@ -32,10 +32,10 @@ invariant_of-self c =
       laid = laid_set part shown_resident seats (length c.self.inside.notes.items) c.resident.inside.0 seat _ c.index_mut-seat.ensures.value refl c.self.invariant.laid;
       rings = rings_set part shown_resident seats c.resident.inside.0 _ (ring_at part shown_resident seats c.resident.inside.0 seat h c.index_mut-seat.ensures.value c.self.invariant.rings) c.self.invariant.rings;
       few = omega (arith, c.self.invariant.few, length-set seats c.resident.inside.0 new);
-      offers_counted = counted_set has_offers (shown_resident notes) seats c.resident.inside.0 c.self.inside.with_offers seat h c.index_mut-seat.ensures.value c.self.invariant.offers_counted new c.self.inside.with_offers
+      offers_counted = counted_set has_offers (shown_resident notes) seats c.resident.inside.0 c.self.inside.residents_with_offers seat h c.index_mut-seat.ensures.value c.self.invariant.offers_counted new c.self.inside.residents_with_offers
           _ _ refl refl refl;
-      due_counted = counted_set has_due (shown_resident notes) seats c.resident.inside.0 c.self.inside.with_due seat h c.index_mut-seat.ensures.value c.self.invariant.due_counted new c.recounted-self-inside.result
-          _ _ (c.is_some-owed.ensures ∙ owes seat.first_due seat.second_due) (c.is_some-owes.ensures ∙ owes c.due_next-seat.result None) c.recounted-self-inside.ensures;
+      due_counted = counted_set has_due (shown_resident notes) seats c.resident.inside.0 c.self.inside.residents_with_due seat h c.index_mut-seat.ensures.value c.self.invariant.due_counted new c.recounted-self-inside.result
+          _ _ (c.is_some-owed_answer.ensures ∙ owes seat.first_due seat.second_due) (c.is_some-still_owes.ensures ∙ owes c.due_next-seat.result None) c.recounted-self-inside.ensures;
     }
 
 pub returns : goal.returns

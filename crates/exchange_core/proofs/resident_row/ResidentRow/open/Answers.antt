@@ -33,11 +33,11 @@ loop-r-preserved c =
           ∙ ap (λ (s : ResidentLeft). map made (range_with_len 0 c.loop-r.r) ++ s ∷ [])
           (same_resident_left (shown_resident notes seat) (made c.loop-r.r) (ap (λ (p : Part). map programme_of (waiting_in notes p)) c.open.ensures) refl refl (ap (λ (p : Part). p.room) c.open.ensures ∙ room))
           ∙ sym (map-range_with_len_more made 0 c.loop-r.r c.loop-r.r (zero-add c.loop-r.r));
-      laid = subst (λ (spans : List (ℕ × ℕ)). AreLaid spans (c.loop-r.total + c.room-room.result))
+      laid = subst (λ (spans : List (ℕ × ℕ)). AreLaid spans (c.loop-r.total_room + c.room-room.result))
           (sym (ap (λ (xs : List ResidentSeat). map resident_span xs) c.in_ok-push.ensures.items ∙ map_push resident_span old seat ∙ ap (λ (p : Part). map resident_span old ++ span p ∷ []) c.open.ensures))
-          (laid_more (map resident_span old) c.loop-r.total c.room-room.result c.loop-r.invariant.laid);
+          (laid_more (map resident_span old) c.loop-r.total_room c.room-room.result c.loop-r.invariant.laid);
       rings = subst (λ (xs : List ResidentSeat). (k : ℕ) (d : ResidentSeat) → k < length xs → IsRing (slice_index_or xs k d).part) (sym c.in_ok-push.ensures.items)
-          (all_more (λ (s : ResidentSeat). IsRing s.part) old seat c.loop-r.invariant.rings (subst IsRing (sym c.open.ensures) (ring_opened c.loop-r.total c.room-room.result)));
+          (all_more (λ (s : ResidentSeat). IsRing s.part) old seat c.loop-r.invariant.rings (subst IsRing (sym c.open.ensures) (ring_opened c.loop-r.total_room c.room-room.result)));
       few = omega (arith, c.loop-r.invariant.few, room, c.list_of_resident.ensures.within);
     }
 
@@ -50,7 +50,7 @@ invariant_of-result c =
     record {
       laid = search rules;
       rings = c.loop-r.invariant.rings;
-      few = omega (arith, length-map seats (shown_resident notes), ap (λ (xs : List ResidentLeft). length xs) opened, length-map-range_with_len made 0 c.loop-r.r, c.loop-r.auto.r-end, c.residents-count.type_inv);
+      few = omega (arith, length-map seats (shown_resident notes), ap (λ (xs : List ResidentLeft). length xs) opened, length-map-range_with_len made 0 c.loop-r.r, c.loop-r.auto.r-end, c.residents-resident_count.type_inv);
       offers_counted = none_made has_offers made (λ r. refl) 0 c.loop-r.r ∙ ap (λ (xs : List ResidentLeft). count_by has_offers xs) (sym opened);
       due_counted = none_made has_due made (λ r. refl) 0 c.loop-r.r ∙ ap (λ (xs : List ResidentLeft). count_by has_due xs) (sym opened);
     }

@@ -10,7 +10,7 @@ use Rattle.exchange_core.proofs.resident_row.ResidentRow.open.Given as goal
 abbrev pub invariant-loop-r : goal.invariant-loop-r
 invariant-loop-r l = record {
   opened : (notes : List ℕ) → map (shown_resident notes) l.seats.items ≡ map (λ r. opened_resident (room_within l.cap (length (list_of_resident l.inst r)))) (range_with_len 0 l.r);
-  laid : AreLaid (map resident_span l.seats.items) l.total;
+  laid : AreLaid (map resident_span l.seats.items) l.total_room;
   rings : All IsResidentRing l.seats.items;
-  few : l.total ≤ 4294967296 * l.r;
+  few : l.total_room ≤ 4294967296 * l.r;
 }

@@ -31,7 +31,7 @@ recounted-self-inside-requires-clause-counted c passes =
     let seats : List ResidentSeat = c.self.inside.seats.items in
     let seat : ResidentSeat = c.index_mut-seat.result.now in
     let h = index_within (shown_resident notes) seats c.args.self.now c.resident.inside.0 c.args.resident c.self.view_is c.resident.view_is c.requires.member in
-    counted_one has_offers (shown_resident notes) seats c.resident.inside.0 c.self.inside.with_offers seat h c.index_mut-seat.ensures.value c.self.invariant.offers_counted
+    counted_one has_offers (shown_resident notes) seats c.resident.inside.0 c.self.inside.residents_with_offers seat h c.index_mut-seat.ensures.value c.self.invariant.offers_counted
     _ (waits programme_of notes seat.part) passes
 
 pub invariant_of-self : goal.invariant_of-self
@@ -57,11 +57,11 @@ invariant_of-self c =
           (subst (λ (n : ℕ). AreLaid (map resident_span seats) n) (sym (ap (λ (xs : List ℕ). length xs) c.push.ensures.notes ∙ length-set notes (place_in seat.part seat.part.len) c.note_of_offer.result)) c.self.invariant.laid);
       rings = rings_set part shown_resident seats c.resident.inside.0 new (subst IsRing (sym c.push.ensures.part) (ring_pushed seat.part ring more)) c.self.invariant.rings;
       few = omega (arith, c.self.invariant.few, length-set seats c.resident.inside.0 new);
-      offers_counted = counted_anew has_offers (shown_resident notes) seats c.resident.inside.0 c.self.inside.with_offers seat h c.index_mut-seat.ensures.value c.self.invariant.offers_counted
+      offers_counted = counted_anew has_offers (shown_resident notes) seats c.resident.inside.0 c.self.inside.residents_with_offers seat h c.index_mut-seat.ensures.value c.self.invariant.offers_counted
           (after c.push.new.notes.items) (shown_resident written new) c.recounted-self-inside.result _ true rows (waits programme_of notes seat.part)
           (sym (lt-ltb 0 c.push.new.self.len (omega (arith, ap (λ (p : Part). p.len) c.push.ensures.part))) ∙ waits programme_of written c.push.new.self) c.recounted-self-inside.ensures;
-      due_counted = counted_anew has_due (shown_resident notes) seats c.resident.inside.0 c.self.inside.with_due seat h c.index_mut-seat.ensures.value c.self.invariant.due_counted
-          (after c.push.new.notes.items) (shown_resident written new) c.self.inside.with_due _ _ rows refl refl refl;
+      due_counted = counted_anew has_due (shown_resident notes) seats c.resident.inside.0 c.self.inside.residents_with_due seat h c.index_mut-seat.ensures.value c.self.invariant.due_counted
+          (after c.push.new.notes.items) (shown_resident written new) c.self.inside.residents_with_due _ _ rows refl refl refl;
     }
 
 pub returns : goal.returns

@@ -22,7 +22,7 @@ recounted-self-inside-requires-clause-counted c passes =
     let seats : List ResidentSeat = c.self.inside.seats.items in
     let seat : ResidentSeat = c.index_mut-seat.result.now in
     let h = index_within (shown_resident notes) seats c.args.self.now c.resident.inside.0 c.args.resident c.self.view_is c.resident.view_is c.requires.member in
-    counted_one has_offers (shown_resident notes) seats c.resident.inside.0 c.self.inside.with_offers seat h c.index_mut-seat.ensures.value c.self.invariant.offers_counted
+    counted_one has_offers (shown_resident notes) seats c.resident.inside.0 c.self.inside.residents_with_offers seat h c.index_mut-seat.ensures.value c.self.invariant.offers_counted
     _ (waits programme_of notes seat.part) passes
 
 pub invariant_of-self : goal.invariant_of-self
@@ -31,7 +31,7 @@ invariant_of-self c =
     let notes : List ℕ = c.self.inside.notes.items in
     let seats : List ResidentSeat = c.self.inside.seats.items in
     let seat : ResidentSeat = c.index_mut-seat.result.now in
-    let new : ResidentSeat = record { part = c.pop.new.self; first_due = c.called_for-due.result.0; second_due = c.called_for-due.result.1; held = seat.held; taken_rank = c.args.rank; held_rank = seat.held_rank } in
+    let new : ResidentSeat = record { part = c.pop.new.self; first_due = c.called_for-due_answers.result.0; second_due = c.called_for-due_answers.result.1; held = seat.held; taken_rank = c.args.rank; held_rank = seat.held_rank } in
     let h = index_within (shown_resident notes) seats c.args.self.now c.resident.inside.0 c.args.resident c.self.view_is c.resident.view_is c.requires.member in
     let ring = ring_at part shown_resident seats c.resident.inside.0 seat h c.index_mut-seat.ensures.value c.self.invariant.rings in
     let nothing = sym (ap (λ (s : ResidentLeft). s.due) (now_at (shown_resident notes) seats c.args.self.now c.resident.inside.0 c.args.resident seat (opened_resident 0) c.self.view_is c.resident.view_is c.requires.member c.index_mut-seat.ensures.value)) ∙ c.requires.due in
@@ -39,10 +39,10 @@ invariant_of-self c =
       laid = laid_set part shown_resident seats (length c.self.inside.notes.items) c.resident.inside.0 seat _ c.index_mut-seat.ensures.value (ap span c.pop.ensures ∙ span_popped seat.part) c.self.invariant.laid;
       rings = rings_set part shown_resident seats c.resident.inside.0 _ (subst IsRing (sym c.pop.ensures) (ring_popped seat.part ring)) c.self.invariant.rings;
       few = omega (arith, c.self.invariant.few, length-set seats c.resident.inside.0 new);
-      offers_counted = counted_set has_offers (shown_resident notes) seats c.resident.inside.0 c.self.inside.with_offers seat h c.index_mut-seat.ensures.value c.self.invariant.offers_counted new c.recounted-self-inside.result
+      offers_counted = counted_set has_offers (shown_resident notes) seats c.resident.inside.0 c.self.inside.residents_with_offers seat h c.index_mut-seat.ensures.value c.self.invariant.offers_counted new c.recounted-self-inside.result
           _ _ (waits programme_of notes seat.part) (waits programme_of notes c.pop.new.self) c.recounted-self-inside.ensures;
-      due_counted = counted_set has_due (shown_resident notes) seats c.resident.inside.0 c.self.inside.with_due seat h c.index_mut-seat.ensures.value c.self.invariant.due_counted new c.recounted-self-inside-2.result
-          false true (sym (ap (λ (xs : List Answered). not (is_nil xs)) nothing)) (calls c.args.better seat.held c.args.programme ∙ sym (ap (λ (xs : List Answered). not (is_nil xs)) c.called_for-due.ensures)) c.recounted-self-inside-2.ensures;
+      due_counted = counted_set has_due (shown_resident notes) seats c.resident.inside.0 c.self.inside.residents_with_due seat h c.index_mut-seat.ensures.value c.self.invariant.due_counted new c.recounted-self-inside-2.result
+          false true (sym (ap (λ (xs : List Answered). not (is_nil xs)) nothing)) (calls c.args.better seat.held c.args.programme ∙ sym (ap (λ (xs : List Answered). not (is_nil xs)) c.called_for-due_answers.ensures)) c.recounted-self-inside-2.ensures;
     }
 
 pub returns : goal.returns
@@ -51,11 +51,11 @@ returns c =
     let notes : List ℕ = c.self.inside.notes.items in
     let seats : List ResidentSeat = c.self.inside.seats.items in
     let seat : ResidentSeat = c.index_mut-seat.result.now in
-    let new : ResidentSeat = record { part = c.pop.new.self; first_due = c.called_for-due.result.0; second_due = c.called_for-due.result.1; held = seat.held; taken_rank = c.args.rank; held_rank = seat.held_rank } in
+    let new : ResidentSeat = record { part = c.pop.new.self; first_due = c.called_for-due_answers.result.0; second_due = c.called_for-due_answers.result.1; held = seat.held; taken_rank = c.args.rank; held_rank = seat.held_rank } in
     let h = index_within (shown_resident notes) seats c.args.self.now c.resident.inside.0 c.args.resident c.self.view_is c.resident.view_is c.requires.member in
     let ring = ring_at part shown_resident seats c.resident.inside.0 seat h c.index_mut-seat.ensures.value c.self.invariant.rings in
     changed (shown_resident notes) seats c.args.self.now c.resident.inside.0 c.args.resident seat new (λ (s : ResidentLeft). took_offer s c.args.better c.args.programme) (opened_resident 0)
     c.self.view_is c.resident.view_is c.requires.member c.index_mut-seat.ensures.value
     (same_resident_left (shown_resident notes new) (took_offer (shown_resident notes seat) c.args.better c.args.programme)
-    (ap (λ (p : Part). map programme_of (waiting_in notes p)) c.pop.ensures ∙ ap (λ (xs : List ℕ). map programme_of xs) (waiting_popped notes seat.part ring) ∙ sym (drop-map programme_of 1 (waiting_in notes seat.part))) c.called_for-due.ensures refl
+    (ap (λ (p : Part). map programme_of (waiting_in notes p)) c.pop.ensures ∙ ap (λ (xs : List ℕ). map programme_of xs) (waiting_popped notes seat.part ring) ∙ sym (drop-map programme_of 1 (waiting_in notes seat.part))) c.called_for-due_answers.ensures refl
     (ap (λ (p : Part). (span p).1) c.pop.ensures ∙ ap (λ (s : ℕ × ℕ). s.1) (span_popped seat.part)))
