@@ -17,7 +17,7 @@ pub struct Published {
 fn comma_in(text: &[u8]) -> Option<usize>
     ensures { result ≡ position (nat_eq 44) text.now }
 {
-    text.iter().position(|c| 44 == *c)
+    text.iter().position(|byte| 44 == *byte)
 }
 
 /// The number of members and the root that a text writes: a number, a comma and 64 small hexadecimal digits.
