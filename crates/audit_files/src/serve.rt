@@ -192,15 +192,15 @@ pub fn serve_files<W: Write, H: RandomSource>(
         (IsServingFault docket.now sheet.now (option_copied journal.entry)) }
     ensures before { IfErr result (λ fault. fault ≢ FilesFault.Write → writer.new ≡ writer.old) }
 {
-    let read = match read_files(rt, alloc, docket, sheet, bytes_of(journal)) {
-        Ok(read) => read,
+    let read_docket = match read_files(rt, alloc, docket, sheet, bytes_of(journal)) {
+        Ok(read_docket) => read_docket,
         Err(fault) => return Err(fault),
     };
-    let mut text = match facts_of(alloc, wants_facts, &read, docket, sheet, journal) {
+    let mut text = match facts_of(alloc, wants_facts, &read_docket, docket, sheet, journal) {
         Ok(text) => text,
         Err(fault) => return Err(fault),
     };
-    let verdict = match add_answer(alloc, &read, journal, &mut text) {
+    let verdict = match add_answer(alloc, &read_docket, journal, &mut text) {
         Ok(verdict) => verdict,
         Err(fault) => return Err(fault),
     };
