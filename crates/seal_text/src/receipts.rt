@@ -7,7 +7,7 @@ ghost use Rattle.seal_text.specs.declared.leaves.Section.TheVariants.{Outcome};
 ghost use Rattle.seal_text.specs.Grown.{AreTrees, IsGrownAs, lists_in, member_count, results_in};
 
 use crate::grow::put_row;
-use crate::grown::Grown;
+use crate::grown::TextTree;
 use docket::Docket;
 use match_model::{ProgrammeNo, ResidentNo};
 use std::alloc::{AllocError, Global};
@@ -16,9 +16,9 @@ use std::alloc::{AllocError, Global};
 #[derive(Drop)]
 pub(crate) struct Trees {
     /// The tree of the lists.
-    pub(crate) lists: Grown,
+    pub(crate) lists: TextTree,
     /// The tree of the result, if there is one.
-    pub(crate) outcome: Option<Grown>,
+    pub(crate) outcome: Option<TextTree>,
 }
 
 impl Trees {
@@ -48,17 +48,18 @@ impl Trees {
         alloc: Global,
         text: &mut Vec<u8>,
         secret: &[u8; 32],
-        kind: &[u8],
+        side_letter: &[u8],
         name: &[u8],
         index: usize,
     ) -> Result<(), AllocError>
         requires trees { AreTrees secret.now (length self.now.lists.texts.items) self.now }
         requires index { index < length self.now.lists.texts.items }
-        ensures { OnOk result (Grows text.old text.new (receipt_text secret.now kind.now name.now
+        ensures { OnOk result (Grows text.old text.new
+            (receipt_text secret.now side_letter.now name.now
             (lists_in self.now) (results_in self.now) index)) }
     {
-        put_row(alloc, text, &[b"member", kind, name])?;
-        put_row(alloc, text, &[b"receipt", b"2", kind, name])?;
+        put_row(alloc, text, &[b"member", side_letter, name])?;
+        put_row(alloc, text, &[b"receipt", b"2", side_letter, name])?;
         self.lists.put_part(alloc, text, secret, index)?;
         self.put_outcome(alloc, text, secret, index)
     }

@@ -1,7 +1,7 @@
 use Rattle.std.proofs.Common.{◌∙◌, arith}
 use Rattle.std.proofs.lemmas.Result.{on_ok_weaker}
 use Rattle.seal_text.proofs.ReceiptFacts.{leaves_counted, part_made, text_there}
-use Rattle.seal_text.proofs.grown.Grown.put_part.Goals as goal
+use Rattle.seal_text.proofs.grown.TextTree.put_part.Goals as goal
 
 pub opening-requires : goal.opening-requires
 opening-requires c = let below = c.requires.index in omega (arith, below, leaves_counted c.args.secret.now c.args.self.now c.requires.grown)

@@ -2,7 +2,7 @@ use Rattle.std.proofs.Common.{◌∙◌, arith}
 use Rattle.csv.specs.Records.{fields_of}
 use Rattle.records.proofs.LineFacts.{field_is}
 use Rattle.seal_text.proofs.RecordFacts.{extends_all, extends_more, extends_none}
-use Rattle.seal_text.proofs.texts.push_all.Goals as goal
+use Rattle.seal_text.proofs.texts.push_fields.Goals as goal
 
 pub loop-k-init : goal.loop-k-init
 loop-k-init c = extends_none c.args.row.now c.requires

@@ -1,7 +1,7 @@
 use Rattle.std.proofs.Common.{inl, inr, sym, ◌∙◌, codes}
 use Rattle.clap.specs.Words.{found_of}
 use Rattle.clap.proofs.WalkLemmas.{first_value-rows}
-use Rattle.seal_text.proofs.compare_line.two_named.Goals as goal
+use Rattle.seal_text.proofs.compare_line.receipt_paths_named.Goals as goal
 
 pub returns-in_default-clause-none : goal.returns-in_default-clause-none
 returns-in_default-clause-none c = λ same. inl (sym (c.in_default.ensures ∙ first_value-rows (found_of c.args.matches.now) (codes "resident")))
