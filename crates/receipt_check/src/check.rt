@@ -23,7 +23,7 @@ use std::io::Write;
 use std::random::RandomSource;
 
 /// How many bytes a receipt has at most. The longest receipt that a docket can have is shorter.
-pub(crate) const LONGEST: usize = 8_000_000;
+pub(crate) const LONGEST_RECEIPT: usize = 8_000_000;
 
 /// The content of the receipt with these rows and the names on its list, or the receipt's first fault.
 #[tactic(auto, unfolding(crate::specs::Faults::text_fault))]
@@ -37,10 +37,11 @@ pub(crate) fn checked_contents<'r, 'a>(
 ) -> Result<Result<(ReceiptContents<'r, 'a>, Texts), Fault>, AllocError>
     requires { rows_in rows.now ≡ form.split_rows text.now }
     ensures { IfOk result (λ answer. MatchResult answer
-        (λ good. (faults.text_fault lists_root.now
+        (λ contents_and_list. (faults.text_fault lists_root.now
         (option_map (λ root. root.now) result_root.entry) text.now ≡ None)
-        × (content good.0 ≡ receipt.read (form.split_rows text.now))
-        × (good.1 ≡ fields_in good.0.list.now) × (lawful.is_name good.0.name.now ≡ true))
+        × (content contents_and_list.0 ≡ receipt.read (form.split_rows text.now))
+        × (contents_and_list.1 ≡ fields_in contents_and_list.0.list.now)
+        × (lawful.is_name contents_and_list.0.name.now ≡ true))
         (λ fault. faults.text_fault lists_root.now
         (option_map (λ root. root.now) result_root.entry) text.now ≡ Some fault)) }
 {
@@ -93,7 +94,7 @@ fn answer_of<H: RandomSource>(
         (IsReceiptFault lists_root.now
         (option_map (λ root. root.now) result_root.entry) bytes.now) }
 {
-    if bytes.len() > LONGEST {
+    if bytes.len() > LONGEST_RECEIPT {
         return Err(ReceiptFault::Wrong(row_fault(0, Wrong::Long)));
     }
     let Ok(keys) = RandomState::new(rt) else {

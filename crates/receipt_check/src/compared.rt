@@ -9,7 +9,7 @@ ghost use Rattle.receipt_check.specs.Rows as form;
 ghost use Rattle.receipt_check.specs.Shown.{content, rows_in};
 ghost use Rattle.receipt_check.specs.Side.{IsSide, receipt_of};
 
-use crate::check::{LONGEST, checked_contents};
+use crate::check::{LONGEST_RECEIPT, checked_contents};
 use crate::difference::{first_difference, is_number};
 use crate::kind::Kind;
 use crate::pair_words::put_pair;
@@ -27,7 +27,7 @@ use std::random::RandomSource;
 pub(crate) fn short_text(alloc: Global, file: &[u8]) -> Result<Vec<u8>, AllocError>
     ensures { IfOk result (λ text. text.items ≡ pair.short_text file.now) }
 {
-    if file.len() > LONGEST {
+    if file.len() > LONGEST_RECEIPT {
         return Ok(Vec::new(alloc));
     }
     plain_text(alloc, file)
@@ -71,7 +71,7 @@ pub(crate) fn checked_receipt<'r, 'a>(
         (λ fault. pair.compared_fault lists.now.members lists.now.root outcome.now.members
         outcome.now.root file.now ≡ Some fault)) }
 {
-    if file.len() > LONGEST {
+    if file.len() > LONGEST_RECEIPT {
         return Ok(Err(row_fault(0, Wrong::Long)));
     }
     let (contents, list) = match checked_contents(

@@ -12,7 +12,7 @@ use records::{field, next_row, put_line, reader_over};
 use std::alloc::{AllocError, Global};
 
 // Whether a real name or an ID can have the character.
-fn is_shown(character: char) -> bool
+fn can_be_shown(character: char) -> bool
     ensures { result ≡ named_row.is_shown character }
 {
     let code = character as u32;
@@ -25,10 +25,10 @@ fn is_shown(character: char) -> bool
 }
 
 // Whether a text between two commas can have the character.
-fn is_part(character: char) -> bool
+fn fits_in_piece(character: char) -> bool
     ensures { result ≡ named_row.is_part character }
 {
-    is_shown(character) && character != ','
+    can_be_shown(character) && character != ','
 }
 
 // Whether a text between two commas is UTF-8 and has only characters that it can have.
@@ -38,7 +38,7 @@ fn is_piece(piece: &[u8]) -> bool
     let Ok(text) = str::from_utf8(piece) else {
         return false;
     };
-    text.chars().all(|character| is_part(character))
+    text.chars().all(|character| fits_in_piece(character))
 }
 
 // Whether each of the texts between commas is UTF-8 and has only characters that it can have.
@@ -86,7 +86,7 @@ fn is_printed(
     name_pieces: &[&[u8]],
     name_record: &ByteRecord,
 ) -> Result<bool, AllocError>
-    ensures { IfOk result (λ same. same ≡ named_row.is_printed
+    ensures { IfOk result (λ printed. printed ≡ named_row.is_printed
         (fields_in name_pieces.now) (fields_of name_record.now)) }
 {
     let row_text = name_text(alloc, name_pieces)?;

@@ -13,7 +13,7 @@ use crate::told::{put_rank, put_stop};
 use std::alloc::AllocError;
 
 // Adds pieces of a text, one after another.
-fn put_all(text: &mut Vec<u8>, pieces: &[&[u8]]) -> Result<(), AllocError>
+fn put_pieces(text: &mut Vec<u8>, pieces: &[&[u8]]) -> Result<(), AllocError>
     ensures { OnOk result (Grows text.old text.new (pair.joined (fields_in pieces.now))) }
 {
     for k in 0..pieces.len() {
@@ -46,9 +46,9 @@ fn put_withdrawn_name(
         (pair.gone_text (receipt_of resident.now) (receipt_of programme.now))) }
 {
     if resident.contents.withdrawn {
-        return put_all(text, &[resident.contents.name, b" is withdrawn"]);
+        return put_pieces(text, &[resident.contents.name, b" is withdrawn"]);
     }
-    put_all(text, &[programme.contents.name, b" is withdrawn"])
+    put_pieces(text, &[programme.contents.name, b" is withdrawn"])
 }
 
 // Adds the words on the places of a programme that is full.
@@ -87,16 +87,16 @@ fn put_agreed(
         return put_withdrawn_name(text, resident, programme);
     }
     if says(answer, b"unranked") {
-        return put_all(text, &[programme_name, b" does not list ", resident_name]);
+        return put_pieces(text, &[programme_name, b" does not list ", resident_name]);
     }
     if says(answer, b"matched") {
-        return put_all(text, &[resident_name, b" is matched with ", programme_name]);
+        return put_pieces(text, &[resident_name, b" is matched with ", programme_name]);
     }
     if says(answer, b"better") {
         let better_words = b" is matched with a programme that it lists before ";
-        return put_all(text, &[resident_name, better_words, programme_name]);
+        return put_pieces(text, &[resident_name, better_words, programme_name]);
     }
-    put_all(text, &[programme_name, b" lists ", resident_name, b" "])?;
+    put_pieces(text, &[programme_name, b" lists ", resident_name, b" "])?;
     put_rank(text, field(answer, 1))?;
     put_full_places(text, answer)
 }
@@ -111,7 +111,7 @@ fn put_answer_word(
         (pair.joined (pair.word_pieces (fields_in answer.now) (receipt_of resident.now)))) }
 {
     let (resident_name, answer_word) = (resident.contents.name, field(answer, 0));
-    put_all(
+    put_pieces(
         text,
         &[resident_name, b"'s receipt says ", answer_word, b", and "],
     )
@@ -145,7 +145,7 @@ fn put_listed(
         (pair.listed_text (receipt_of resident.now) (receipt_of programme.now))) }
 {
     let (resident_name, programme_name) = (resident.contents.name, programme.contents.name);
-    put_all(text, &[programme_name, b" lists ", resident_name, b" "])?;
+    put_pieces(text, &[programme_name, b" lists ", resident_name, b" "])?;
     put_place(text, programme.place(resident_name))
 }
 
@@ -165,7 +165,7 @@ fn put_unranked(
     if says(answer, b"unranked") {
         return put_listed(text, resident, programme);
     }
-    put_all(text, &[programme_name, b" does not list ", resident_name])
+    put_pieces(text, &[programme_name, b" does not list ", resident_name])
 }
 
 // Adds the difference that only one receipt says that the programme has the resident.
@@ -181,9 +181,9 @@ fn put_matched(
     let (resident_name, programme_name) = (resident.contents.name, programme.contents.name);
     put_answer_word(text, answer, resident)?;
     if says(answer, b"matched") {
-        return put_all(text, &[programme_name, b" does not have ", resident_name]);
+        return put_pieces(text, &[programme_name, b" does not have ", resident_name]);
     }
-    put_all(text, &[programme_name, b" has ", resident_name])
+    put_pieces(text, &[programme_name, b" has ", resident_name])
 }
 
 // Adds the difference between the resident's ranks on the programme's list in the two receipts.
@@ -198,7 +198,7 @@ fn put_ranks(
         (receipt_of resident.now) (receipt_of programme.now))) }
 {
     let (resident_name, programme_name) = (resident.contents.name, programme.contents.name);
-    put_all(
+    put_pieces(
         text,
         &[
             resident_name,
@@ -208,7 +208,7 @@ fn put_ranks(
         ],
     )?;
     put_rank(text, field(answer, 1))?;
-    put_all(text, &[b", and ", programme.contents.name, b" lists it "])?;
+    put_pieces(text, &[b", and ", programme.contents.name, b" lists it "])?;
     put_place(text, programme.place(resident.contents.name))
 }
 
@@ -233,7 +233,7 @@ fn put_quotas(
         b" places, and ",
     );
     let own_quota = programme.contents.quota;
-    put_all(
+    put_pieces(
         text,
         &[
             resident_name,
@@ -263,12 +263,12 @@ fn put_filled(
         b"'s receipt says that all places of ",
         b" went to others, and ",
     );
-    put_all(
+    put_pieces(
         text,
         &[resident_name, says_words, programme_name, went_words],
     )?;
     put_number(text, programme.contents.detail_rows.len())?;
-    put_all(text, &[b" of ", programme.contents.quota, b" are filled"])
+    put_pieces(text, &[b" of ", programme.contents.quota, b" are filled"])
 }
 
 // Adds the difference between the last ranks that got a place, in the two receipts.
@@ -283,12 +283,12 @@ fn put_last_ranks(
         (receipt_of resident.now) (receipt_of programme.now))) }
 {
     let (resident_name, programme_name) = (resident.contents.name, programme.contents.name);
-    put_all(
+    put_pieces(
         text,
         &[resident_name, b"'s receipt says that the last of them is "],
     )?;
     put_rank(text, field(answer, 2))?;
-    put_all(text, &[b" with ", programme_name, b", and it is "])?;
+    put_pieces(text, &[b" with ", programme_name, b", and it is "])?;
     put_place(text, programme.last_member_place)
 }
 
@@ -308,7 +308,7 @@ fn put_differing(
     match difference {
         Difference::Unlisted => {
             let unlisted_words = b" does not list ";
-            put_all(
+            put_pieces(
                 text,
                 &[
                     programme_name,
@@ -343,7 +343,7 @@ fn put_agreed_at(
 {
     let (resident_name, programme_name) = (resident.contents.name, programme.contents.name);
     match choice {
-        None => put_all(text, &[resident_name, b" does not list ", programme_name]),
+        None => put_pieces(text, &[resident_name, b" does not list ", programme_name]),
         Some(choice) => put_agreed(text, resident.contents.answer(choice), resident, programme),
     }
 }
@@ -414,7 +414,7 @@ pub(crate) fn put_pair(
     ensures { OnOk result (Grows text.old text.new
         (pair.pair_words (receipt_of resident.now) (receipt_of programme.now))) }
 {
-    put_all(
+    put_pieces(
         text,
         &[resident.contents.name, b" and ", programme.contents.name],
     )?;

@@ -241,7 +241,7 @@ pub(crate) fn result_text(alloc: Global, contents: &ReceiptContents) -> Result<V
 
 /// Adds the two rows of a tree that stand before the text of a leaf: the root's row and the
 /// opening's row.
-pub(crate) fn put_part(
+pub(crate) fn put_tree_part(
     alloc: Global,
     text: &mut Vec<u8>,
     tree_word: &[u8],
@@ -277,7 +277,7 @@ fn put_result_part(
     let Some(root) = root else {
         return Ok(());
     };
-    put_part(
+    put_tree_part(
         alloc,
         text,
         b"result",
@@ -303,7 +303,7 @@ pub(crate) fn receipt_text(
 {
     let mut text = Vec::new(alloc);
     put_header_row(&mut text, contents.kind.letter(), contents.name)?;
-    put_part(
+    put_tree_part(
         alloc,
         &mut text,
         b"lists",

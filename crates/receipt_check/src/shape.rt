@@ -177,8 +177,8 @@ pub(crate) fn shape_fault(
         (option_map (λ root. root.now) result_root.entry) (content contents.now)
         (rows_in rows.now) text.now) }
 {
-    let printed = receipt_text(alloc, lists_root, result_root, contents)?;
-    let Some(row_number) = first_unlike(text, printed.as_slice()) else {
+    let printed_text = receipt_text(alloc, lists_root, result_root, contents)?;
+    let Some(row_number) = first_unlike(text, printed_text.as_slice()) else {
         return Ok(None);
     };
     let defect = shape_wrong(alloc, lists_root, result_root, contents, rows, row_number)?;

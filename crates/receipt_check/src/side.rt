@@ -40,7 +40,7 @@ fn later(place: Option<usize>, other_place: Option<usize>) -> Option<usize>
 fn place_of(contents: &ReceiptContents, list: &Texts, name: &[u8]) -> Option<usize>
     requires { list.now ≡ fields_in contents.now.list.now }
     ensures place { result ≡ number_in (fields_in contents.now.list.now) name.now }
-    ensures within { IfSome result (λ k. k < 2 ^ 63) }
+    ensures within { IfSome result (λ place. place < 2 ^ 63) }
 {
     match list.find(name) {
         Some(place) if place < contents.list.len() => Some(place),
@@ -52,7 +52,7 @@ fn place_of(contents: &ReceiptContents, list: &Texts, name: &[u8]) -> Option<usi
 fn last_place(contents: &ReceiptContents, list: &Texts) -> Option<usize>
     requires { list.now ≡ fields_in contents.now.list.now }
     ensures last { result ≡ pair.last_place (content contents.now) }
-    ensures within { IfSome result (λ k. k < 2 ^ 63) }
+    ensures within { IfSome result (λ place. place < 2 ^ 63) }
 {
     let mut last_member_place = None;
     for k in 0..contents.detail_rows.len() {
@@ -86,7 +86,7 @@ impl<'r, 'a> ComparedReceipt<'r, 'a> {
     pub(crate) fn place(&self, name: &[u8]) -> Option<usize>
         requires { IsSide self.now }
         ensures place { result ≡ number_in (receipt_of self.now).list name.now }
-        ensures within { IfSome result (λ k. k < 2 ^ 63) }
+        ensures within { IfSome result (λ place. place < 2 ^ 63) }
     {
         place_of(&self.contents, &self.list, name)
     }

@@ -14,5 +14,5 @@ returns c =
     let matched : says fields (codes "matched") ≡ false = sym c.says-3.ensures ∙ c.if-says-3.false in
     let better : says fields (codes "better") ≡ false = sym c.says-4.ensures ∙ c.if-says-4.false in
     on_ok_weaker c.put_full_places.result (λ h. rw (withdrawn, unranked, matched, better)
-    (grows_three c.args.text.now c.put_all-2.new.text c.put_rank.new.text c.put_full_places.new.text _ _ _
-    c.in_ok-put_all.ensures (rw c.field.ensures at c.in_ok-put_rank.ensures) h)) c.put_full_places.ensures
+    (grows_three c.args.text.now c.put_pieces-2.new.text c.put_rank.new.text c.put_full_places.new.text _ _ _
+    c.in_ok-put_pieces.ensures (rw c.field.ensures at c.in_ok-put_rank.ensures) h)) c.put_full_places.ensures

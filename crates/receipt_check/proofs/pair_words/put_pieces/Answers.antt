@@ -2,7 +2,7 @@ use Rattle.std.proofs.Common.{[], arith}
 use Rattle.std.proofs.lemmas.List.{length-map}
 use Rattle.receipt_check.specs.Shown.{fields_in}
 use Rattle.receipt_check.proofs.Steps.{grows_none, grows_at, grown_all}
-use Rattle.receipt_check.proofs.pair_words.put_all.Goals as goal
+use Rattle.receipt_check.proofs.pair_words.put_pieces.Goals as goal
 
 pub loop-k-init : goal.loop-k-init
 loop-k-init c = grows_none c.args.text.now
