@@ -162,8 +162,8 @@ fn receipt_paths_named<'a>(matches: &ArgMatches<'a>) -> Option<ReceiptPaths<'a>>
 pub(crate) fn pair_named<'a>(
     matches: &ArgMatches<'a>,
 ) -> Option<(PublishedRows<'a>, ReceiptPaths<'a>)>
-    ensures pair { IfSome result (λ named.
-        GivesPair (rows_of (found_of matches.now)) named.0 named.1) }
+    ensures pair { IfSome result (λ rows_and_paths.
+        GivesPair (rows_of (found_of matches.now)) rows_and_paths.0 rows_and_paths.1) }
     ensures none { result ≡ None → NamesNoPair (rows_of (found_of matches.now)) }
 {
     match (rows_named(matches), receipt_paths_named(matches)) {
@@ -174,8 +174,8 @@ pub(crate) fn pair_named<'a>(
 
 /// The rows and the directory that the words of the command `pairs` give, if they give all of them.
 pub(crate) fn pairs_named<'a>(matches: &ArgMatches<'a>) -> Option<(PublishedRows<'a>, &'a str)>
-    ensures pairs { IfSome result (λ named.
-        GivesFolder (rows_of (found_of matches.now)) named.0 named.1.now) }
+    ensures pairs { IfSome result (λ rows_and_directory.
+        GivesFolder (rows_of (found_of matches.now)) rows_and_directory.0 rows_and_directory.1.now) }
     ensures none { result ≡ None → NamesNoFolder (rows_of (found_of matches.now)) }
 {
     let Some(rows) = rows_named(matches) else {

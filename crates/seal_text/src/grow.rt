@@ -30,8 +30,8 @@ fn write_row<W: Write>(alloc: Global, writer: &mut W, fields: &[&[u8]]) -> Resul
     ensures { OnOk result (Appends
         (W.contents writer.old) (W.contents writer.new) (row (map (λ f. f.now) fields.now))) }
 {
-    let mut room = room_for_rows(alloc)?;
-    let mut rows = RowWriter::new(writer, &mut room);
+    let mut row_buffer = room_for_rows(alloc)?;
+    let mut rows = RowWriter::new(writer, &mut row_buffer);
     rows.push(fields)?;
     rows.send()?;
     Ok(())

@@ -63,16 +63,17 @@ fn put_opening(
     alloc: Global,
     text: &mut Vec<u8>,
     section: Section,
-    index: usize,
+    leaf_index: usize,
     salt: &[u8; 32],
     path: &[[u8; 32]],
 ) -> Result<(), AllocError>
-    ensures { OnOk result (Grows text.old text.new (opening_row section index salt.now path.now)) }
+    ensures { OnOk result
+        (Grows text.old text.new (opening_row section leaf_index salt.now path.now)) }
 {
     put(text, b"opens,")?;
     put_word(text, section)?;
     put(text, b",")?;
-    put_number(text, index)?;
+    put_number(text, leaf_index)?;
     put_digest(alloc, text, salt)?;
     put_path(alloc, text, path)
 }
@@ -115,18 +116,25 @@ impl TextTree {
         alloc: Global,
         text: &mut Vec<u8>,
         secret: &[u8; 32],
-        index: usize,
+        leaf_index: usize,
     ) -> Result<(), AllocError>
         requires grown { IsGrown secret.now self.now }
-        requires index { index < length self.now.texts.items }
+        requires index { leaf_index < length self.now.texts.items }
         ensures { OnOk result (Grows text.old text.new
-            (part_text secret.now self.now.section (texts_in self.now) index)) }
+            (part_text secret.now self.now.section (texts_in self.now) leaf_index)) }
     {
         self.put_root(alloc, text)?;
-        let salt = salt(secret, self.section.tag(), index as u64);
-        let path = self.tree.opening(alloc, index)?;
-        put_opening(alloc, text, self.section, index, &salt, path.as_slice())?;
+        let salt = salt(secret, self.section.tag(), leaf_index as u64);
+        let path = self.tree.opening(alloc, leaf_index)?;
+        put_opening(
+            alloc,
+            text,
+            self.section,
+            leaf_index,
+            &salt,
+            path.as_slice(),
+        )?;
         let texts = self.texts.as_slice();
-        put(text, texts[index].as_slice())
+        put(text, texts[leaf_index].as_slice())
     }
 }

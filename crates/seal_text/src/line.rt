@@ -92,16 +92,16 @@ pub(crate) fn option_with_value<'a>(
     id: &'static str,
     value_name: &'static str,
     help: &'static str,
-    needed: bool,
+    is_required: bool,
 ) -> Arg<'a>
-    ensures rule { rule_of result ≡ option_rule id.entry.now needed }
+    ensures rule { rule_of result ≡ option_rule id.entry.now is_required }
     ensures own { result.global ≡ false }
 {
     Arg::new(alloc, id)
         .long(id)
         .value_name(value_name)
         .help(help)
-        .required(needed)
+        .required(is_required)
 }
 
 // The description of a command that seals, with its options for files.

@@ -28,16 +28,16 @@ impl Trees {
         alloc: Global,
         text: &mut Vec<u8>,
         secret: &[u8; 32],
-        index: usize,
+        leaf_index: usize,
     ) -> Result<(), AllocError>
         requires outcome { IfSome self.now.outcome
             (IsGrownAs secret.now Outcome (length self.now.lists.texts.items)) }
-        requires index { index < length self.now.lists.texts.items }
+        requires index { leaf_index < length self.now.lists.texts.items }
         ensures { OnOk result
-            (Grows text.old text.new (result_text_if secret.now (results_in self.now) index)) }
+            (Grows text.old text.new (result_text_if secret.now (results_in self.now) leaf_index)) }
     {
         match &self.outcome {
-            Some(outcome) => outcome.put_part(alloc, text, secret, index),
+            Some(outcome) => outcome.put_part(alloc, text, secret, leaf_index),
             None => Ok(()),
         }
     }
@@ -50,18 +50,18 @@ impl Trees {
         secret: &[u8; 32],
         side_letter: &[u8],
         name: &[u8],
-        index: usize,
+        leaf_index: usize,
     ) -> Result<(), AllocError>
         requires trees { AreTrees secret.now (length self.now.lists.texts.items) self.now }
-        requires index { index < length self.now.lists.texts.items }
+        requires index { leaf_index < length self.now.lists.texts.items }
         ensures { OnOk result (Grows text.old text.new
             (receipt_text secret.now side_letter.now name.now
-            (lists_in self.now) (results_in self.now) index)) }
+            (lists_in self.now) (results_in self.now) leaf_index)) }
     {
         put_row(alloc, text, &[b"member", side_letter, name])?;
         put_row(alloc, text, &[b"receipt", b"2", side_letter, name])?;
-        self.lists.put_part(alloc, text, secret, index)?;
-        self.put_outcome(alloc, text, secret, index)
+        self.lists.put_part(alloc, text, secret, leaf_index)?;
+        self.put_outcome(alloc, text, secret, leaf_index)
     }
 
     // Adds the receipts of the programmes.
@@ -99,10 +99,17 @@ impl Trees {
             (resident_receipt secret.now docket.now (lists_in self.now) (results_in self.now))
             (range_with_len 0 (length docket.now.instance.resident_lists)))) }
     {
-        let programmes = docket.instance().programmes() as usize;
+        let programme_count = docket.instance().programmes() as usize;
         for r in 0..docket.instance().residents() {
             let name = docket.resident_name(ResidentNo(r)).as_bytes();
-            self.put_receipt(alloc, text, secret, b"R", name, programmes + r as usize)?;
+            self.put_receipt(
+                alloc,
+                text,
+                secret,
+                b"R",
+                name,
+                programme_count + r as usize,
+            )?;
         }
         Ok(())
     }

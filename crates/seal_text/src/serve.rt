@@ -127,16 +127,17 @@ fn text_of_docket(
     wanted: Wanted,
     secret: &[u8; 32],
     docket: &Docket,
-    written: &WrittenLists,
+    written_lists: &WrittenLists,
     given_lists: &ProgrammeLists,
     names: &RealNames,
 ) -> Result<Vec<u8>, AllocError>
-    requires { NameMembers docket.now given_lists.now written.now }
-    ensures { IfOk result (λ text. (draft : Draft) → AreListsOf draft given_lists.now written.now
+    requires { NameMembers docket.now given_lists.now written_lists.now }
+    ensures { IfOk result (λ text. (draft : Draft)
+        → AreListsOf draft given_lists.now written_lists.now
         → text.items ≡ serving.text_of wanted secret.now docket.now
         (texts.lists_texts docket.now draft names.now) None) }
 {
-    let lists = lists_texts(alloc, docket, given_lists, written, names)?;
+    let lists = lists_texts(alloc, docket, given_lists, written_lists, names)?;
     text_of(alloc, wanted, secret, docket, lists, None)
 }
 
@@ -173,7 +174,7 @@ fn early_text<H: RandomSource>(
         IsEarlyText wanted docket.now (option_copied key.entry) secret.now text.items) }
     ensures fault { IfErr result (IsUnmade wanted docket.now None (option_copied key.entry)) }
 {
-    let (read_docket, written, given_lists) = match read_lists(rt, alloc, docket, &[]) {
+    let (read_docket, written_lists, given_lists) = match read_lists(rt, alloc, docket, &[]) {
         Ok(parts) => parts,
         Err(fault) => return Err(SealFault::Files(fault)),
     };
@@ -186,7 +187,7 @@ fn early_text<H: RandomSource>(
         wanted,
         secret,
         &read_docket,
-        &written,
+        &written_lists,
         &given_lists,
         &names,
     ) {

@@ -419,8 +419,8 @@ fn write_resident_result<W: Write>(
     ensures { OnOk result (AppendsText
         (IsResidentResult case.now resident) (W.contents writer.old) (W.contents writer.new)) }
 {
-    let mut room = room_for_rows(alloc)?;
-    let mut rows = RowWriter::new(writer, &mut room);
+    let mut row_buffer = room_for_rows(alloc)?;
+    let mut rows = RowWriter::new(writer, &mut row_buffer);
     push_resident_result(alloc, &mut rows, case, resident)?;
     rows.send()?;
     Ok(())
