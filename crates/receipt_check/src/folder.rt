@@ -32,27 +32,27 @@ pub(crate) struct FolderReceipts<'r, 'a> {
 }
 
 // Whether this number is noted.
-fn is_noted(numbers: &[bool], number: usize) -> bool
-    ensures { result ≡ slice_index_or numbers.now number false }
+fn is_noted(noted_numbers: &[bool], number: usize) -> bool
+    ensures { result ≡ slice_index_or noted_numbers.now number false }
 {
-    match numbers.get(number) {
+    match noted_numbers.get(number) {
         Some(noted) => *noted,
         None => false,
     }
 }
 
 // Notes a number.
-fn note(numbers: &mut Vec<bool>, number: usize) -> Result<(), AllocError>
-    ensures { OnOk result ((m : ℕ) → slice_index_or numbers.new.items m false
-        ≡ (nat_eq m number || slice_index_or numbers.old.items m false)) }
+fn set_noted(noted_numbers: &mut Vec<bool>, number: usize) -> Result<(), AllocError>
+    ensures { OnOk result ((m : ℕ) → slice_index_or noted_numbers.new.items m false
+        ≡ (nat_eq m number || slice_index_or noted_numbers.old.items m false)) }
 {
-    if number >= numbers.len() {
+    if number >= noted_numbers.len() {
         let Some(len) = number.checked_add(1) else {
             return Err(AllocError);
         };
-        numbers.resize(len, false)?;
+        noted_numbers.resize(len, false)?;
     }
-    numbers[number] = true;
+    noted_numbers[number] = true;
     Ok(())
 }
 
@@ -112,7 +112,7 @@ impl<'r, 'a> FolderReceipts<'r, 'a> {
             || slice_index_or self.old.numbers.items m false)) }
     {
         match plain_number(digits) {
-            Some(number) => note(&mut self.numbers, number as usize),
+            Some(number) => set_noted(&mut self.numbers, number as usize),
             None => Ok(()),
         }
     }

@@ -36,7 +36,7 @@ fn tell<T: Eprint>(console: &T, path: Option<&str>, fault: &CompareFault) {
 }
 
 // The path of the file at fault as it is shown, if a file is at fault.
-fn path_at(alloc: Global, paths: &[String], fault: &CompareFault) -> Option<String> {
+fn path_at_fault(alloc: Global, paths: &[String], fault: &CompareFault) -> Option<String> {
     match fault {
         CompareFault::Wrong(file, _) => visible_path(alloc, paths.get(*file)?.as_str()).ok(),
         CompareFault::Memory | CompareFault::Write => None,
@@ -118,7 +118,7 @@ fn compare_all<W: Write, T: Eprint, H: RandomSource + Files + AllocGlobal>(
     };
     let answer = serve_pairs(rt, alloc, lists, outcome, files.as_slice(), writer);
     if let Err(fault) = &answer {
-        match path_at(alloc, paths.as_slice(), fault) {
+        match path_at_fault(alloc, paths.as_slice(), fault) {
             Some(path) => tell(console, Some(path.as_str()), fault),
             None => tell(console, None, fault),
         }
