@@ -23,7 +23,7 @@ fn is_listed(list: Option<&Texts>, name: &[u8]) -> bool
 
 // What is wrong with a name: it is no name, it isn't on the list, or it is among the names seen
 // before.
-fn name_wrong(list: Option<&Texts>, seen_names: &Texts, name: &[u8]) -> Option<Wrong>
+fn name_defect(list: Option<&Texts>, seen_names: &Texts, name: &[u8]) -> Option<Wrong>
     ensures { result
         ≡ faults.name_wrong (option_map (λ list. list.now) list.entry) seen_names.now name.now }
 {
@@ -66,7 +66,7 @@ pub(crate) fn names_in(
     let mut seen_names = Texts::new(alloc, keys);
     for k in 0..names.len() {
         let name = field(names, k);
-        if let Some(defect) = name_wrong(list, &seen_names, name) {
+        if let Some(defect) = name_defect(list, &seen_names, name) {
             return Ok(Err((k, defect)));
         }
         add(&mut seen_names, name)?;

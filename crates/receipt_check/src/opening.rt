@@ -67,7 +67,7 @@ fn digests_of(alloc: Global, fields: &[&[u8]]) -> Result<Option<Vec<[u8; 32]>>, 
 // Why these fields, a salt and a path, don't open this root from the leaf with this text; none if
 // they do.
 #[tactic(auto, unfolding(crate::specs::Faults::opening_wrong))]
-fn opening_wrong(
+fn opening_defect(
     alloc: Global,
     root: &[u8; 32],
     member_count: u32,
@@ -124,7 +124,7 @@ fn result_opening_fault(
         return Ok(None);
     };
     let text = result_text(alloc, contents)?;
-    let defect = opening_wrong(
+    let defect = opening_defect(
         alloc,
         root,
         member_count,
@@ -150,7 +150,7 @@ fn member_openings_fault(
         (Some member_count) (Some member_index)) }
 {
     let text = lists_text(alloc, contents)?;
-    let defect = opening_wrong(
+    let defect = opening_defect(
         alloc,
         lists_root,
         member_count,

@@ -112,7 +112,7 @@ fn can_have_answer(withdrawn: bool, place: ChoicePlace, answer: &[&[u8]]) -> boo
 }
 
 // What is wrong with an answer, if the choice can't have it.
-fn reason_wrong(withdrawn: bool, place: ChoicePlace, answer: &[&[u8]]) -> Option<Wrong>
+fn answer_defect(withdrawn: bool, place: ChoicePlace, answer: &[&[u8]]) -> Option<Wrong>
     ensures { result ≡ faults.reason_wrong withdrawn place (fields_in answer.now) }
 {
     if can_have_answer(withdrawn, place, answer) {
@@ -135,7 +135,7 @@ pub(crate) fn wrong_reason(
         choice_defect.0 < length contents.now.list.now) }
 {
     for k in 0..contents.list.len() {
-        if let Some(defect) = reason_wrong(
+        if let Some(defect) = answer_defect(
             contents.withdrawn,
             choice_place_of(own_choice, k),
             contents.answer(k),

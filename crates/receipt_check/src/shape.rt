@@ -38,7 +38,7 @@ fn first_unlike(text: &[u8], other_text: &[u8]) -> Option<usize>
 }
 
 // What is wrong with the first row.
-fn header_wrong(rows: &[Vec<&[u8]>]) -> Wrong
+fn header_defect(rows: &[Vec<&[u8]>]) -> Wrong
     ensures { result ≡ shape.header_wrong (rows_in rows.now) }
 {
     if is(cell(rows, 0, 0), b"receipt") && is(cell(rows, 0, 1), b"1") {
@@ -49,7 +49,7 @@ fn header_wrong(rows: &[Vec<&[u8]>]) -> Wrong
 }
 
 // What is wrong with the row of a root.
-fn root_wrong(
+fn root_defect(
     alloc: Global,
     root: &[u8; 32],
     member_count: &[u8],
@@ -72,7 +72,7 @@ fn root_wrong(
 }
 
 // What is wrong with a row of the result.
-fn result_wrong(
+fn result_defect(
     alloc: Global,
     root: &[u8; 32],
     contents: &ReceiptContents,
@@ -85,7 +85,7 @@ fn result_wrong(
     let result_start = contents.lists_end();
     if row_number == result_start {
         if is(cell(rows, row_number, 0), b"result") {
-            return root_wrong(
+            return root_defect(
                 alloc,
                 root,
                 contents.member_count,
@@ -104,7 +104,7 @@ fn result_wrong(
 }
 
 // What is wrong with a row after the rows of the lists.
-fn later_wrong(
+fn later_row_defect(
     alloc: Global,
     root: Option<&[u8; 32]>,
     contents: &ReceiptContents,
@@ -116,7 +116,7 @@ fn later_wrong(
         (content contents.now) (rows_in rows.now) row_number) }
 {
     match root {
-        Some(root) => result_wrong(alloc, root, contents, rows, row_number),
+        Some(root) => result_defect(alloc, root, contents, rows, row_number),
         None => {
             if is(cell(rows, row_number, 0), b"result") {
                 return Ok(Wrong::Unasked);
@@ -128,7 +128,7 @@ fn later_wrong(
 
 // What is wrong with the first row that differs from the printed receipt with this content.
 #[tactic(auto, unfolding(crate::specs::Shape::shape_wrong))]
-fn shape_wrong(
+fn row_defect(
     alloc: Global,
     lists_root: &[u8; 32],
     result_root: Option<&[u8; 32]>,
@@ -144,10 +144,10 @@ fn shape_wrong(
         return Ok(Wrong::Missing);
     }
     if row_number == 0 {
-        return Ok(header_wrong(rows));
+        return Ok(header_defect(rows));
     }
     if row_number == 1 {
-        return root_wrong(
+        return root_defect(
             alloc,
             lists_root,
             contents.member_count,
@@ -160,7 +160,7 @@ fn shape_wrong(
     if row_number < contents.lists_end() {
         return Ok(Wrong::List);
     }
-    later_wrong(alloc, result_root, contents, rows, row_number)
+    later_row_defect(alloc, result_root, contents, rows, row_number)
 }
 
 /// The fault of the first row of a text that differs from the printed receipt with this content.
@@ -181,6 +181,6 @@ pub(crate) fn shape_fault(
     let Some(row_number) = first_unlike(text, printed_text.as_slice()) else {
         return Ok(None);
     };
-    let defect = shape_wrong(alloc, lists_root, result_root, contents, rows, row_number)?;
+    let defect = row_defect(alloc, lists_root, result_root, contents, rows, row_number)?;
     Ok(Some(row_fault(row_number, defect)))
 }
