@@ -44,10 +44,15 @@ fn put_journal_digest(
 fn put_members(text: &mut Vec<u8>, docket: &Docket) -> Result<(), AllocError>
     ensures { OnOk result (Grows text.old text.new (spec.members_row docket.now)) }
 {
-    let (mut programmes_room, mut residents_room) = (itoa::Buffer::new(), itoa::Buffer::new());
-    let programmes = programmes_room.format(docket.instance().programmes());
-    let residents = residents_room.format(docket.instance().residents());
-    put_long_row(text, b"T", programmes.as_bytes(), residents.as_bytes())
+    let (mut programme_buffer, mut resident_buffer) = (itoa::Buffer::new(), itoa::Buffer::new());
+    let programme_digits = programme_buffer.format(docket.instance().programmes());
+    let resident_digits = resident_buffer.format(docket.instance().residents());
+    put_long_row(
+        text,
+        b"T",
+        programme_digits.as_bytes(),
+        resident_digits.as_bytes(),
+    )
 }
 
 // Adds the row of a programme, if the programme is withdrawn.

@@ -29,7 +29,7 @@ pub enum FilesFault {
 
 /// A fault of the docket's reader, as a fault of the audit over files. Out of memory is no fault of
 /// a file.
-pub fn told(file_fault: FileFault) -> FilesFault
+pub fn files_fault(file_fault: FileFault) -> FilesFault
     ensures { result ≡ spec.told file_fault }
 {
     match file_fault.fault {

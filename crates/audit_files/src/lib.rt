@@ -19,7 +19,7 @@ mod rows;
 mod serve;
 mod status;
 
-pub use fault::{FilesFault, told};
+pub use fault::{FilesFault, files_fault};
 pub use order::Order;
 pub use program::audit_words;
 pub use serve::{Verdict, serve_files};

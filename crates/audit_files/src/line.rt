@@ -4,7 +4,7 @@ ghost use Rattle.clap.specs.Words.{HasKind, app_of, fault_of, found_of, matches_
 ghost use Rattle.program_shell.specs.Flags.{flag_rule, required, word_rule};
 ghost use Rattle.audit_files.specs.Line.{GivesOrder, Orders, Refuses, audit_app, program_app};
 
-use crate::order::{Order, is_twice};
+use crate::order::{Order, takes_input_twice};
 use clap::{Arg, ArgAction, ArgMatches, Command};
 use program_shell::{LineFault, line_fault};
 use std::alloc::{AllocError, Global};
@@ -35,14 +35,14 @@ Examples: residency-audit docket.csv sheet.csv
 fn file_argument<'a>(
     alloc: Global,
     id: &'static str,
-    name: &'static str,
+    value_name: &'static str,
     help: &'static str,
 ) -> Arg<'a>
     ensures rule { rule_of result ≡ required (word_rule id.entry.now) }
     ensures own { result.global ≡ false }
 {
     Arg::new(alloc, id)
-        .value_name(name)
+        .value_name(value_name)
         .help(help)
         .required(true)
 }
@@ -146,7 +146,7 @@ pub(crate) fn read_line<'a, S: AsStr>(alloc: Global, words: &'a [S]) -> Result<O
         Err(error) => return Err(line_fault(error)),
     };
     match order_named(&matches) {
-        Some(order) if is_twice(&order) => Err(LineFault::SecondInput),
+        Some(order) if takes_input_twice(&order) => Err(LineFault::SecondInput),
         Some(order) => Ok(order),
         None => Err(LineFault::Memory),
     }

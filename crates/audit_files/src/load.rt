@@ -11,7 +11,7 @@ use std::rt::Files;
 
 /// The bytes of the three files.
 #[derive(Drop)]
-pub(crate) struct Loaded {
+pub(crate) struct LoadedFiles {
     /// The bytes of the docket's file.
     pub(crate) docket: Vec<u8>,
     /// The bytes of the sheet's file.
@@ -26,11 +26,11 @@ pub(crate) fn load<'a, R: Read, H: Files + AllocGlobal>(
     alloc: Global,
     order: &Order<'a>,
     reader: &mut R,
-) -> Result<Loaded, Unread<'a>>
+) -> Result<LoadedFiles, Unread<'a>>
     requires once { IsTwice (Some order.now.docket.now) (Some order.now.sheet.now)
         (option_map (λ path. path.now) order.now.journal) → ⊥ }
-    ensures files { IfOk result (λ loaded. AreFiles order.now (R.remaining reader.old)
-        loaded.docket.items loaded.sheet.items (option_map (λ bytes. bytes.items) loaded.journal)) }
+    ensures files { IfOk result (λ files. AreFiles order.now (R.remaining reader.old)
+        files.docket.items files.sheet.items (option_map (λ bytes. bytes.items) files.journal)) }
     ensures kept { (NamesInput order.now → ⊥) → R.remaining reader.new ≡ R.remaining reader.old }
 {
     let docket = match load_file(rt, alloc, order.docket, reader) {
@@ -42,7 +42,7 @@ pub(crate) fn load<'a, R: Read, H: Files + AllocGlobal>(
         Err(unread) => return Err(unread),
     };
     match load_if(rt, alloc, order.journal, reader) {
-        Ok(journal) => Ok(Loaded {
+        Ok(journal) => Ok(LoadedFiles {
             docket,
             sheet,
             journal,

@@ -43,14 +43,14 @@ fn is_input_if(path: Option<&str>) -> bool
 }
 
 /// Whether more than one of the files would come from standard input.
-pub(crate) fn is_twice(order: &Order) -> bool
+pub(crate) fn takes_input_twice(order: &Order) -> bool
     ensures twice { OnTrue result (IsTwice (Some order.now.docket.now) (Some order.now.sheet.now)
         (option_map (λ path. path.now) order.now.journal)) }
     ensures once { OnFalse result (IsTwice (Some order.now.docket.now) (Some order.now.sheet.now)
         (option_map (λ path. path.now) order.now.journal) → ⊥) }
 {
-    let (docket, sheet) = (is_input(order.docket), is_input(order.sheet));
-    match (docket, sheet, is_input_if(order.journal)) {
+    let (docket_is_input, sheet_is_input) = (is_input(order.docket), is_input(order.sheet));
+    match (docket_is_input, sheet_is_input, is_input_if(order.journal)) {
         (true, true, _) | (true, _, true) | (_, true, true) => true,
         _ => false,
     }

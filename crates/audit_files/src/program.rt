@@ -10,7 +10,7 @@ ghost use Rattle.audit_files.specs.Status.{exit_status_of};
 
 use crate::fault::FilesFault;
 use crate::line::read_line;
-use crate::load::{Loaded, load};
+use crate::load::{LoadedFiles, load};
 use crate::order::Order;
 use crate::serve::serve_files;
 use crate::status::exit_status;
@@ -35,12 +35,12 @@ fn serve_loaded<W: Write, T: Eprint, H: RandomSource>(
     rt: &H,
     alloc: Global,
     order: &Order,
-    loaded: &Loaded,
+    files: &LoadedFiles,
     writer: &mut W,
     console: &T,
 ) -> ExitCode
-    ensures { (input : Option (List ℕ)) → AreFiles order.now input loaded.now.docket.items
-        loaded.now.sheet.items (option_map (λ bytes. bytes.items) loaded.now.journal)
+    ensures { (input : Option (List ℕ)) → AreFiles order.now input files.now.docket.items
+        files.now.sheet.items (option_map (λ bytes. bytes.items) files.now.journal)
         → EndsAnswered (AnswersOrder order.now input
         (W.contents writer.old) (W.contents writer.new)) exit_status_of (exit_status_in result) }
 {
@@ -48,9 +48,9 @@ fn serve_loaded<W: Write, T: Eprint, H: RandomSource>(
         rt,
         alloc,
         order.facts,
-        loaded.docket.as_slice(),
-        loaded.sheet.as_slice(),
-        lent(&loaded.journal),
+        files.docket.as_slice(),
+        files.sheet.as_slice(),
+        lent(&files.journal),
         writer,
     );
     if let Err(fault) = &answer {
@@ -79,7 +79,7 @@ where
         (W.contents writer.new) (exit_status_in result) order.now }
 {
     match load(rt, alloc, order, reader) {
-        Ok(loaded) => serve_loaded(rt, alloc, order, &loaded, writer, console),
+        Ok(files) => serve_loaded(rt, alloc, order, &files, writer, console),
         Err(unread) => refuse_unread(console, &unread),
     }
 }

@@ -2,7 +2,7 @@
 ghost use Rattle.std.specs.Prelude.{◌≡◌, IfOk, IfErr};
 ghost use Rattle.audit_files.specs.Answer.{IsDocketIn, IsReadingFault};
 
-use crate::fault::{FilesFault, told};
+use crate::fault::{FilesFault, files_fault};
 use docket::{Docket, read_parts};
 use match_model::Limits;
 use std::alloc::Global;
@@ -21,6 +21,6 @@ pub(crate) fn read_files<H: RandomSource>(
 {
     match read_parts(rt, alloc, Limits::National, docket, sheet, journal) {
         Ok(docket) => Ok(docket),
-        Err(file_fault) => Err(told(file_fault)),
+        Err(file_fault) => Err(files_fault(file_fault)),
     }
 }

@@ -49,12 +49,13 @@ pub(crate) fn put_long_row(
 pub(crate) fn put_result(
     text: &mut Vec<u8>,
     docket: &Docket,
-    first_unlike: Option<ResidentNo>,
+    differing_resident: Option<ResidentNo>,
 ) -> Result<(), AllocError>
-    requires { (r : ℕ) → first_unlike ≡ Some r → IsResident docket.now.instance r }
-    ensures { OnOk result (Grows text.old text.new (spec.result_row docket.now first_unlike)) }
+    requires { (r : ℕ) → differing_resident ≡ Some r → IsResident docket.now.instance r }
+    ensures { OnOk result
+        (Grows text.old text.new (spec.result_row docket.now differing_resident)) }
 {
-    match first_unlike {
+    match differing_resident {
         None => put_row(text, b"Y", b"result"),
         Some(resident) => put_row(text, b"D", docket.resident_name(resident).as_bytes()),
     }

@@ -48,19 +48,19 @@ fn add_result(
     text: &mut Vec<u8>,
 ) -> Result<Option<ResidentNo>, FilesFault>
     ensures first { IfOk result (TellsFirst docket.now) }
-    ensures text { IfOk result (λ first_unlike. Grows text.old text.new
-        (result_row docket.now first_unlike)) }
+    ensures text { IfOk result (λ differing_resident. Grows text.old text.new
+        (result_row docket.now differing_resident)) }
     ensures fault { IfErr result (IsAnswerFault docket.now) }
 {
     let Some(sheet) = docket.sheet() else {
         return Err(FilesFault::NoSheet);
     };
-    let Ok(first_unlike) = first_unlike_result(alloc, docket.instance(), sheet) else {
+    let Ok(differing_resident) = first_unlike_result(alloc, docket.instance(), sheet) else {
         return Err(FilesFault::Memory);
     };
-    let same_unlike = first_unlike;
-    match put_result(text, docket, first_unlike) {
-        Ok(()) => Ok(same_unlike),
+    let same_resident = differing_resident;
+    match put_result(text, docket, differing_resident) {
+        Ok(()) => Ok(same_resident),
         Err(_) => Err(FilesFault::Memory),
     }
 }
@@ -100,13 +100,13 @@ fn add_replay_if(
 
 // The verdict from the audit, from the comparison with the result, and from the replay.
 fn verdict_on(
-    audited: Status,
-    first_unlike: Option<ResidentNo>,
-    replayed: Option<Status>,
+    audit_status: Status,
+    differing_resident: Option<ResidentNo>,
+    replay_status: Option<Status>,
 ) -> Verdict
-    ensures { result ≡ verdict_of audited first_unlike replayed }
+    ensures { result ≡ verdict_of audit_status differing_resident replay_status }
 {
-    match (audited, first_unlike, replayed) {
+    match (audit_status, differing_resident, replay_status) {
         (Status::Stable, None, None | Some(Status::ReplayGood)) => Verdict::Good,
         _ => Verdict::Bad,
     }
@@ -123,19 +123,19 @@ fn add_answer(
         Tells docket.now (option_copied journal.entry) text.old.items verdict text.new.items) }
     ensures fault { IfErr result (IsAnswerFault docket.now) }
 {
-    let audited = match add_audit(alloc, docket, text) {
-        Ok(audited) => audited,
+    let audit_status = match add_audit(alloc, docket, text) {
+        Ok(audit_status) => audit_status,
         Err(fault) => return Err(fault),
     };
-    let first_unlike = match add_result(alloc, docket, text) {
-        Ok(first_unlike) => first_unlike,
+    let differing_resident = match add_result(alloc, docket, text) {
+        Ok(differing_resident) => differing_resident,
         Err(fault) => return Err(fault),
     };
-    let replayed = match add_replay_if(alloc, docket, journal, text) {
-        Ok(replayed) => replayed,
+    let replay_status = match add_replay_if(alloc, docket, journal, text) {
+        Ok(replay_status) => replay_status,
         Err(fault) => return Err(fault),
     };
-    Ok(verdict_on(audited, first_unlike, replayed))
+    Ok(verdict_on(audit_status, differing_resident, replay_status))
 }
 
 // The text of the facts if the facts are asked for, else an empty text.
@@ -192,15 +192,15 @@ pub fn serve_files<W: Write, H: RandomSource>(
         (IsServingFault docket.now sheet.now (option_copied journal.entry)) }
     ensures before { IfErr result (λ fault. fault ≢ FilesFault.Write → writer.new ≡ writer.old) }
 {
-    let read = match read_files(rt, alloc, docket, sheet, bytes_of(journal)) {
-        Ok(read) => read,
+    let read_docket = match read_files(rt, alloc, docket, sheet, bytes_of(journal)) {
+        Ok(read_docket) => read_docket,
         Err(fault) => return Err(fault),
     };
-    let mut text = match facts_of(alloc, wants_facts, &read, docket, sheet, journal) {
+    let mut text = match facts_of(alloc, wants_facts, &read_docket, docket, sheet, journal) {
         Ok(text) => text,
         Err(fault) => return Err(fault),
     };
-    let verdict = match add_answer(alloc, &read, journal, &mut text) {
+    let verdict = match add_answer(alloc, &read_docket, journal, &mut text) {
         Ok(verdict) => verdict,
         Err(fault) => return Err(fault),
     };

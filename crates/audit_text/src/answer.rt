@@ -30,10 +30,10 @@ fn refusal_word(refused: &Refused) -> &'static str
 }
 
 // The word for what is pending at a desk.
-fn pending_word(what: &Pending) -> &'static str
-    ensures { result.now ≡ kind_of what.now }
+fn pending_word(pending: &Pending) -> &'static str
+    ensures { result.now ≡ kind_of pending.now }
 {
-    match what {
+    match pending {
         Pending::Offers(_) => "offers",
         Pending::Due(_) => "due",
         Pending::Answers(_) => "answers",
@@ -42,11 +42,11 @@ fn pending_word(what: &Pending) -> &'static str
 }
 
 // The name of the desk where something is pending.
-fn pending_name<'a>(docket: &'a Docket, what: &Pending) -> &'a str
-    requires { IsPendingMember docket.now.instance what.now }
-    ensures { result.now ≡ name_of docket.now what.now }
+fn pending_name<'a>(docket: &'a Docket, pending: &Pending) -> &'a str
+    requires { IsPendingMember docket.now.instance pending.now }
+    ensures { result.now ≡ name_of docket.now pending.now }
 {
-    match what {
+    match pending {
         Pending::Offers(resident) | Pending::Due(resident) => docket.resident_name(*resident),
         Pending::Answers(programme) | Pending::Wish(programme) => {
             docket.programme_name(*programme)
@@ -68,31 +68,32 @@ fn event_count(docket: &Docket) -> usize
 // Adds the row of a fault that needs no more than a word.
 fn push_word<W: Write>(
     rows: &mut RowWriter<'_, W>,
-    place: &[u8],
+    place_digits: &[u8],
     word: &str,
 ) -> Result<(), WriteFailed>
     ensures { OnOk result
-        (Adds W.contents rows.old rows.new (row (codes "N" ∷ place.now ∷ word.now ∷ []))) }
+        (Adds W.contents rows.old rows.new (row (codes "N" ∷ place_digits.now ∷ word.now ∷ []))) }
 {
-    rows.push(&[b"N", place, word.as_bytes()])
+    rows.push(&[b"N", place_digits, word.as_bytes()])
 }
 
 // Adds the row of a close that was refused because something is pending.
 fn push_pending<W: Write>(
     rows: &mut RowWriter<'_, W>,
-    place: &[u8],
-    kind: &str,
-    name: &str,
+    place_digits: &[u8],
+    kind_word: &str,
+    desk_name: &str,
 ) -> Result<(), WriteFailed>
     ensures { OnOk result
-        (Adds W.contents rows.old rows.new (row (pending_fields place.now kind.now name.now))) }
+        (Adds W.contents rows.old rows.new
+        (row (pending_fields place_digits.now kind_word.now desk_name.now))) }
 {
     rows.push(&[
         b"N",
-        place,
+        place_digits,
         b"still-pending",
-        kind.as_bytes(),
-        name.as_bytes(),
+        kind_word.as_bytes(),
+        desk_name.as_bytes(),
     ])
 }
 
@@ -100,18 +101,23 @@ fn push_pending<W: Write>(
 fn push_refused<W: Write>(
     rows: &mut RowWriter<'_, W>,
     docket: &Docket,
-    place: &[u8],
+    place_digits: &[u8],
     refused: &Refused,
 ) -> Result<(), WriteFailed>
     requires member { RefusesMember docket.now.instance refused.now }
     ensures { OnOk result (Adds W.contents rows.old rows.new
-        (row (refused_fields docket.now place.now refused.now))) }
+        (row (refused_fields docket.now place_digits.now refused.now))) }
 {
     match refused {
-        Refused::StillPending(what) => {
-            push_pending(rows, place, pending_word(what), pending_name(docket, what))
+        Refused::StillPending(pending) => {
+            push_pending(
+                rows,
+                place_digits,
+                pending_word(pending),
+                pending_name(docket, pending),
+            )
         }
-        _ => push_word(rows, place, refusal_word(refused)),
+        _ => push_word(rows, place_digits, refusal_word(refused)),
     }
 }
 
@@ -125,17 +131,17 @@ fn push_fault<W: Write>(
     ensures { OnOk result
         (Adds W.contents rows.old rows.new (row (fault_fields docket.now fault.now))) }
 {
-    let mut room = itoa::Buffer::new();
+    let mut number_buffer = itoa::Buffer::new();
     match fault {
         ReplayFault::BadCapacity => push_word(rows, b"0", "bad-capacity"),
         ReplayFault::Memory => push_word(rows, b"0", "memory"),
         ReplayFault::At { place, refused } => {
-            let place = room.format(*place).as_bytes();
-            push_refused(rows, docket, place, refused)
+            let place_digits = number_buffer.format(*place).as_bytes();
+            push_refused(rows, docket, place_digits, refused)
         }
         ReplayFault::NotClosed => {
-            let place = room.format(event_count(docket) + 1).as_bytes();
-            push_word(rows, place, "not-closed")
+            let place_digits = number_buffer.format(event_count(docket) + 1).as_bytes();
+            push_word(rows, place_digits, "not-closed")
         }
         ReplayFault::SheetDiffers(resident) => {
             rows.push(&[b"D", docket.resident_name(*resident).as_bytes()])
@@ -148,9 +154,9 @@ fn push_good<W: Write>(rows: &mut RowWriter<'_, W>, events: usize) -> Result<(),
     ensures { OnOk result
         (Adds W.contents rows.old rows.new (row (codes "G" ∷ decimal events ∷ []))) }
 {
-    let mut room = itoa::Buffer::new();
-    let events = room.format(events);
-    rows.push(&[b"G", events.as_bytes()])
+    let mut number_buffer = itoa::Buffer::new();
+    let event_digits = number_buffer.format(events);
+    rows.push(&[b"G", event_digits.as_bytes()])
 }
 
 // Adds the row of a replay's answer.
@@ -178,18 +184,21 @@ fn push_worker<W: Write>(
 ) -> Result<(), WriteFailed>
     ensures { OnOk result (Adds W.contents rows.old rows.new (worker_row worker events)) }
 {
-    let (mut first, mut second) = (itoa::Buffer::new(), itoa::Buffer::new());
-    let worker = first.format(worker);
-    let events = second.format(events);
-    rows.push(&[b"K", worker.as_bytes(), events.as_bytes()])
+    let (mut worker_buffer, mut event_buffer) = (itoa::Buffer::new(), itoa::Buffer::new());
+    let worker_digits = worker_buffer.format(worker);
+    let event_digits = event_buffer.format(events);
+    rows.push(&[b"K", worker_digits.as_bytes(), event_digits.as_bytes()])
 }
 
 // Adds a row for each worker, with the number of the worker's events.
-fn push_workers<W: Write>(rows: &mut RowWriter<'_, W>, counts: &[u64]) -> Result<(), WriteFailed>
-    ensures { OnOk result (Adds W.contents rows.old rows.new (worker_rows 0 counts.now)) }
+fn push_workers<W: Write>(
+    rows: &mut RowWriter<'_, W>,
+    event_counts: &[u64],
+) -> Result<(), WriteFailed>
+    ensures { OnOk result (Adds W.contents rows.old rows.new (worker_rows 0 event_counts.now)) }
 {
-    for worker in 0..counts.len() {
-        push_worker(rows, worker, counts[worker])?;
+    for worker in 0..event_counts.len() {
+        push_worker(rows, worker, event_counts[worker])?;
     }
     Ok(())
 }
@@ -199,13 +208,14 @@ fn push_workers<W: Write>(rows: &mut RowWriter<'_, W>, counts: &[u64]) -> Result
 fn push_counts<W: Write>(
     rows: &mut RowWriter<'_, W>,
     answer: &Result<Replayed, ReplayFault>,
-    counts: Option<&[u64]>,
+    event_counts: Option<&[u64]>,
 ) -> Result<(), WriteFailed>
     ensures { OnOk result
-        (Adds W.contents rows.old rows.new (count_rows answer.now (option_copied counts.entry))) }
+        (Adds W.contents rows.old rows.new
+        (count_rows answer.now (option_copied event_counts.entry))) }
 {
-    match (answer, counts) {
-        (Ok(_), Some(counts)) => push_workers(rows, counts),
+    match (answer, event_counts) {
+        (Ok(_), Some(event_counts)) => push_workers(rows, event_counts),
         _ => Ok(()),
     }
 }
@@ -215,36 +225,36 @@ fn push_replay<W: Write>(
     rows: &mut RowWriter<'_, W>,
     docket: &Docket,
     answer: &Result<Replayed, ReplayFault>,
-    counts: Option<&[u64]>,
+    event_counts: Option<&[u64]>,
 ) -> Result<(), WriteFailed>
     requires { IsAnswerOf docket.now answer.now }
     ensures { OnOk result (Adds W.contents rows.old rows.new
-        (replay_text docket.now answer.now (option_copied counts.entry))) }
+        (replay_text docket.now answer.now (option_copied event_counts.entry))) }
 {
     push_answer(rows, docket, answer)?;
-    push_counts(rows, answer, counts)
+    push_counts(rows, answer, event_counts)
 }
 
-/// Writes the answer of a replay of the docket's journal, in one row. After a good answer, if `counts` are given, a row
-/// for each worker says how many events this worker made.
+/// Writes the answer of a replay of the docket's journal, in one row. After a good answer, if `event_counts` are given,
+/// a row for each worker says how many events this worker made.
 ///
 /// The answer names only members of the docket. If the fault is not the writer's, nothing was written.
 pub fn write_replay<W: Write>(
     alloc: Global,
     docket: &Docket,
     answer: &Result<Replayed, ReplayFault>,
-    counts: Option<&[u64]>,
+    event_counts: Option<&[u64]>,
     writer: &mut W,
 ) -> Result<(), DocketFault>
     requires { IsAnswerOf docket.now answer.now }
     ensures ok { OnOk result (Writes W.contents writer.old writer.new
-        (replay_text docket.now answer.now (option_copied counts.entry))) }
+        (replay_text docket.now answer.now (option_copied event_counts.entry))) }
     ensures fault { IfErr result IsWriteFault }
     ensures before { IfErr result (λ fault. fault ≢ DocketFault.Write → writer.new ≡ writer.old) }
 {
-    let mut room = room_for_rows(alloc)?;
-    let mut rows = RowWriter::new(writer, &mut room);
-    push_replay(&mut rows, docket, answer, counts)?;
+    let mut row_buffer = room_for_rows(alloc)?;
+    let mut rows = RowWriter::new(writer, &mut row_buffer);
+    push_replay(&mut rows, docket, answer, event_counts)?;
     rows.send()?;
     Ok(())
 }

@@ -16,47 +16,47 @@ use std::io::Write;
 fn push_pair<W: Write>(
     rows: &mut RowWriter<'_, W>,
     docket: &Docket,
-    kind: &[u8],
+    letter: &[u8],
     resident: ResidentNo,
     programme: ProgrammeNo,
 ) -> Result<(), WriteFailed>
     requires members { IsPairOf docket.now (resident, programme) }
     ensures { OnOk result
-        (Adds W.contents rows.old rows.new (pair_row docket.now kind.now (resident, programme))) }
+        (Adds W.contents rows.old rows.new (pair_row docket.now letter.now (resident, programme))) }
 {
     let resident = docket.resident_name(resident).as_bytes();
     let programme = docket.programme_name(programme).as_bytes();
-    rows.push(&[kind, resident, programme])
+    rows.push(&[letter, resident, programme])
 }
 
 // Adds a row for each pair.
 fn push_pairs<W: Write>(
     rows: &mut RowWriter<'_, W>,
     docket: &Docket,
-    kind: &[u8],
+    letter: &[u8],
     pairs: &[(ResidentNo, ProgrammeNo)],
 ) -> Result<(), WriteFailed>
     requires members { All (IsPairOf docket.now) pairs.now }
     ensures { OnOk result
-        (Adds W.contents rows.old rows.new (flat_map (pair_row docket.now kind.now) pairs.now)) }
+        (Adds W.contents rows.old rows.new (flat_map (pair_row docket.now letter.now) pairs.now)) }
 {
     for (resident, programme) in pairs {
-        push_pair(rows, docket, kind, *resident, *programme)?;
+        push_pair(rows, docket, letter, *resident, *programme)?;
     }
     Ok(())
 }
 
 // Adds a row for each programme over its quota.
-fn push_all_over<W: Write>(
+fn push_over_quota<W: Write>(
     rows: &mut RowWriter<'_, W>,
     docket: &Docket,
-    all: &[(ProgrammeNo, u32)],
+    over_quota: &[(ProgrammeNo, u32)],
 ) -> Result<(), WriteFailed>
-    requires members { All (λ over. IsProgramme docket.now.instance over.0) all.now }
+    requires members { All (λ over. IsProgramme docket.now.instance over.0) over_quota.now }
     ensures { OnOk result
-        (Adds W.contents rows.old rows.new (flat_map (over_row docket.now) all.now)) }
+        (Adds W.contents rows.old rows.new (flat_map (over_row docket.now) over_quota.now)) }
 {
-    for (programme, filled) in all {
+    for (programme, filled) in over_quota {
         push_programme(rows, docket, b"O", *programme, *filled)?;
     }
     Ok(())
@@ -87,7 +87,7 @@ fn push_report<W: Write>(
 {
     push_stability(rows, report)?;
     push_pairs(rows, docket, b"X", report.unacceptable.as_slice())?;
-    push_all_over(rows, docket, report.over.as_slice())?;
+    push_over_quota(rows, docket, report.over.as_slice())?;
     push_pairs(rows, docket, b"B", report.blocking.as_slice())
 }
 
@@ -107,8 +107,8 @@ pub fn write_report<W: Write>(
     ensures fault { IfErr result IsWriteFault }
     ensures before { IfErr result (λ fault. fault ≢ DocketFault.Write → writer.new ≡ writer.old) }
 {
-    let mut room = room_for_rows(alloc)?;
-    let mut rows = RowWriter::new(writer, &mut room);
+    let mut row_buffer = room_for_rows(alloc)?;
+    let mut rows = RowWriter::new(writer, &mut row_buffer);
     push_report(&mut rows, docket, report)?;
     rows.send()?;
     Ok(())

@@ -55,25 +55,25 @@ pub fn audit_docket<W: Write>(
 // How many events each worker made, if the journal is by worker. The only error is out of memory.
 fn counts_of(alloc: Global, journal: &Journal) -> Result<Option<Vec<u64>>, AnswerFault>
     requires { IfSome journal.now.by (IsByWorker journal.now.events) }
-    ensures counts { IfOk result (λ counts.
-        option_map (λ (v : Vec ℕ). v.items) counts ≡ counts_in journal.now) }
+    ensures counts { IfOk result (λ event_counts.
+        option_map (λ (v : Vec ℕ). v.items) event_counts ≡ counts_in journal.now) }
     ensures fault { IfErr result (λ fault. fault ≡ AnswerFault.Memory) }
 {
-    let Some(by) = &journal.by else {
+    let Some(by_worker) = &journal.by else {
         return Ok(None);
     };
-    match counts(alloc, by.workers, by.who.as_slice()) {
-        Ok(counts) => Ok(Some(counts)),
+    match counts(alloc, by_worker.workers, by_worker.who.as_slice()) {
+        Ok(event_counts) => Ok(Some(event_counts)),
         Err(_) => Err(AnswerFault::Memory),
     }
 }
 
 // The workers' counts as a slice, if there are any.
-fn lent(counts: &Option<Vec<u64>>) -> Option<&[u64]>
-    ensures { option_copied result ≡ option_map (λ (v : Vec ℕ). v.items) counts.now }
+fn counts_slice(event_counts: &Option<Vec<u64>>) -> Option<&[u64]>
+    ensures { option_copied result ≡ option_map (λ (v : Vec ℕ). v.items) event_counts.now }
 {
-    match counts {
-        Some(counts) => Some(counts.as_slice()),
+    match event_counts {
+        Some(event_counts) => Some(event_counts.as_slice()),
         None => None,
     }
 }
@@ -101,8 +101,8 @@ pub fn replay_docket<W: Write>(
     if let Err(ReplayFault::Memory) = answer {
         return Err(AnswerFault::Memory);
     }
-    let counts = counts_of(alloc, journal)?;
-    match write_replay(alloc, docket, &answer, lent(&counts), writer) {
+    let event_counts = counts_of(alloc, journal)?;
+    match write_replay(alloc, docket, &answer, counts_slice(&event_counts), writer) {
         Ok(()) if answer.is_ok() => Ok(Status::ReplayGood),
         Ok(()) => Ok(Status::ReplayBad),
         Err(fault) => Err(AnswerFault::Docket(fault)),

@@ -14,8 +14,8 @@ use Rattle.receipt_check.specs.Named.{is_real}
 use Rattle.receipt_check.specs.Shape.{at}
 use Rattle.receipt_check.specs.declared.kind.Kind.{Kind}
 use Rattle.receipt_check.specs.declared.kind.Kind.TheVariants.{Programme, Resident}
-use Rattle.receipt_check.specs.declared.reasons.Stand.{Stand}
-use Rattle.receipt_check.specs.declared.reasons.Stand.TheVariants.{Before, At, After}
+use Rattle.receipt_check.specs.declared.reasons.ChoicePlace.{ChoicePlace}
+use Rattle.receipt_check.specs.declared.reasons.ChoicePlace.TheVariants.{BeforeOwn, Own, AfterOwn}
 use Rattle.receipt_check.specs.declared.wrong.Wrong.TheVariants as wrong
 use Rattle.receipt_check.proofs.RowFacts.{AreFields, AreRows, IsField, IsRow}
 use Rattle.receipt_check.proofs.ShownFacts.{receipt_rows, result_part_rows}
@@ -169,9 +169,9 @@ gone_fields fields e = bare_fields (codes "withdrawn") fields (word (codes "with
 unranked_fields : (fields : Cells) → is_bare (codes "unranked") fields ≡ true → AreFields fields
 unranked_fields fields e = bare_fields (codes "unranked") fields (word (codes "unranked") refl) e
 
-standing_fields : (gone : Bool) (stand : Stand) (fields : Cells) → can_stand gone stand fields ≡ true → AreFields fields
+standing_fields : (gone : Bool) (stand : ChoicePlace) (fields : Cells) → can_stand gone stand fields ≡ true → AreFields fields
 standing_fields true stand fields e = gone_fields fields e
-standing_fields false Before fields e = elim (or_parts (is_bare (codes "withdrawn") fields || is_bare (codes "unranked") fields) (is_full fields) e) [
+standing_fields false BeforeOwn fields e = elim (or_parts (is_bare (codes "withdrawn") fields || is_bare (codes "unranked") fields) (is_full fields) e) [
   | inl bare ↦
       elim (or_parts (is_bare (codes "withdrawn") fields) (is_bare (codes "unranked") fields) bare) [
         | inl a ↦ gone_fields fields a
@@ -179,8 +179,8 @@ standing_fields false Before fields e = elim (or_parts (is_bare (codes "withdraw
       ]
   | inr full ↦ full_fields fields full
 ]
-standing_fields false At fields e = bare_fields (codes "matched") fields (word (codes "matched") refl) e
-standing_fields false After fields e = elim (or_parts (is_bare (codes "better") fields || is_bare (codes "unranked") fields) (is_bare (codes "withdrawn") fields) e) [
+standing_fields false Own fields e = bare_fields (codes "matched") fields (word (codes "matched") refl) e
+standing_fields false AfterOwn fields e = elim (or_parts (is_bare (codes "better") fields || is_bare (codes "unranked") fields) (is_bare (codes "withdrawn") fields) e) [
   | inl bare ↦
       elim (or_parts (is_bare (codes "better") fields) (is_bare (codes "unranked") fields) bare) [
         | inl a ↦ bare_fields (codes "better") fields (word (codes "better") refl) a
@@ -189,7 +189,7 @@ standing_fields false After fields e = elim (or_parts (is_bare (codes "better") 
   | inr gone ↦ gone_fields fields gone
 ]
 
-pub can_stand_of : (gone : Bool) (stand : Stand) (fields : Cells) → reason_wrong gone stand fields ≡ None → can_stand gone stand fields ≡ true
+pub can_stand_of : (gone : Bool) (stand : ChoicePlace) (fields : Cells) → reason_wrong gone stand fields ≡ None → can_stand gone stand fields ≡ true
 can_stand_of gone stand fields h = by_test (can_stand gone stand fields) h
   where
     by_test : (b : Bool) → (if b then None else Some (answer_wrong fields)) ≡ None → b ≡ true

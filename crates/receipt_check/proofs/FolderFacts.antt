@@ -17,11 +17,11 @@ use Rattle.docket_names.specs.Texts.{is_declared, number_in}
 use Rattle.receipt_check.specs.Rows.{Cells, plain_text, split_rows}
 use Rattle.receipt_check.specs.Held.{ArePresent, IsHeld, receipts_of}
 use Rattle.receipt_check.specs.Side.{IsSide, receipt_of}
-use Rattle.receipt_check.specs.declared.folder.Held.{Held}
+use Rattle.receipt_check.specs.declared.folder.FolderReceipts.{FolderReceipts}
 use Rattle.receipt_check.specs.declared.kind.Kind.{Kind}
 use Rattle.receipt_check.specs.declared.kind.Kind.TheVariants.{Programme, Resident}
-use Rattle.receipt_check.specs.declared.present.Present.{Present}
-use Rattle.receipt_check.specs.declared.side.Side.{Side}
+use Rattle.receipt_check.specs.declared.present.PresentMembers.{PresentMembers}
+use Rattle.receipt_check.specs.declared.side.ComparedReceipt.{ComparedReceipt}
 
 -- one more receipt adds its member's name to the names of a side, if the member is of this side
 pub names_push : (kind : Kind) (rs : List Receipt) (r : Receipt) → names_of kind (rs ++ r ∷ []) ≡ names_of kind rs ++ (if is_of kind r then r.name ∷ [] else [])
@@ -60,41 +60,41 @@ number_push rs r n =
     ∙ or_swap (has_number rs n) (is_number (plain_number r.index) n || false) ∙ ap (λ b. b || has_number rs n) (or_swap (is_number (plain_number r.index) n) false)
 
 -- the kept receipt at place k is the receipt of `sides` at place k
-pub receipt_there : (h : Held) (k : ℕ) (d : Side) → k < length h.sides.items → receipt_at (receipts_of h) k ≡ receipt_of (get_or h.sides.items k d)
-receipt_there h k d within = get_or-map receipt_of h.sides.items k d (content_of []) within
+pub receipt_there : (h : FolderReceipts) (k : ℕ) (d : ComparedReceipt) → k < length h.receipts.items → receipt_at (receipts_of h) k ≡ receipt_of (get_or h.receipts.items k d)
+receipt_there h k d within = get_or-map receipt_of h.receipts.items k d (content_of []) within
 
 -- if the receipt's member is of the side, the member's name and the file's number were added to
 -- what is kept of the side, else nothing
-pub record AddsIf (kind : Kind) (r : Receipt) (file : ℕ) (old new : Present) : Type 0 where
+pub record AddsIf (kind : Kind) (r : Receipt) (file : ℕ) (old new : PresentMembers) : Type 0 where
   pub names : new.names ≡ old.names ++ (if is_of kind r then r.name ∷ [] else [])
   pub files : new.files.items ≡ old.files.items ++ (if is_of kind r then file ∷ [] else [])
 
-pub adds_none : (kind : Kind) (r : Receipt) (file : ℕ) (old new : Present) → is_of kind r ≡ false → new ≡ old → AddsIf kind r file old new
+pub adds_none : (kind : Kind) (r : Receipt) (file : ℕ) (old new : PresentMembers) → is_of kind r ≡ false → new ≡ old → AddsIf kind r file old new
 adds_none kind r file old new other same = record {
-  names = ap (λ (there : Present). there.names) same ∙ sym (rw other (append-nil old.names));
-  files = ap (λ (there : Present). there.files.items) same ∙ sym (rw other (append-nil old.files.items));
+  names = ap (λ (there : PresentMembers). there.names) same ∙ sym (rw other (append-nil old.names));
+  files = ap (λ (there : PresentMembers). there.files.items) same ∙ sym (rw other (append-nil old.files.items));
 }
 
-pub adds_one : (kind : Kind) (r : Receipt) (file : ℕ) (old new : Present) → is_of kind r ≡ true → new.names ≡ old.names ++ r.name ∷ []
+pub adds_one : (kind : Kind) (r : Receipt) (file : ℕ) (old new : PresentMembers) → is_of kind r ≡ true → new.names ≡ old.names ++ r.name ∷ []
     → new.files.items ≡ old.files.items ++ file ∷ [] → AddsIf kind r file old new
 adds_one kind r file old new its names files = record { names = rw its names; files = rw its files }
 
-present_push : (kind : Kind) (rs : List Receipt) (r : Receipt) (old new : Present) → ArePresent kind rs old → AddsIf kind r (length rs) old new → ArePresent kind (rs ++ r ∷ []) new
+present_push : (kind : Kind) (rs : List Receipt) (r : Receipt) (old new : PresentMembers) → ArePresent kind rs old → AddsIf kind r (length rs) old new → ArePresent kind (rs ++ r ∷ []) new
 present_push kind rs r old new are adds = record {
   names_are = adds.names ∙ ap (λ (names : Cells). names ++ (if is_of kind r then r.name ∷ [] else [])) are.names_are ∙ sym (names_push kind rs r);
   files_are = adds.files ∙ ap (λ (files : List ℕ). files ++ (if is_of kind r then length rs ∷ [] else [])) are.files_are ∙ sym (files_push kind rs r);
 }
 
 -- after a receipt was added, what is kept for look-ups agrees with the receipts
-pub held_push : (old new : Held) (s : Side) → IsHeld old → IsSide s → new.sides.items ≡ old.sides.items ++ s ∷ []
+pub held_push : (old new : FolderReceipts) (s : ComparedReceipt) → IsHeld old → IsSide s → new.receipts.items ≡ old.receipts.items ++ s ∷ []
     → ((n : ℕ) → slice_index_or new.numbers.items n false ≡ (is_number (plain_number (receipt_of s).index) n || slice_index_or old.numbers.items n false))
-    → AddsIf Resident (receipt_of s) (length old.sides.items) old.residents new.residents
-    → AddsIf Programme (receipt_of s) (length old.sides.items) old.programmes new.programmes → IsHeld new
+    → AddsIf Resident (receipt_of s) (length old.receipts.items) old.residents new.residents
+    → AddsIf Programme (receipt_of s) (length old.receipts.items) old.programmes new.programmes → IsHeld new
 held_push old new s held side sides numbers residents programmes =
-    let more : receipts_of new ≡ receipts_of old ++ receipt_of s ∷ [] = ap (map receipt_of) sides ∙ map_push receipt_of old.sides.items s in
-    let count : length (receipts_of old) ≡ length old.sides.items = length-map old.sides.items receipt_of in
+    let more : receipts_of new ≡ receipts_of old ++ receipt_of s ∷ [] = ap (map receipt_of) sides ∙ map_push receipt_of old.receipts.items s in
+    let count : length (receipts_of old) ≡ length old.receipts.items = length-map old.receipts.items receipt_of in
     record {
-      each = All-same IsSide new.sides.items (old.sides.items ++ s ∷ []) sides (All-push IsSide old.sides.items s held.each side);
+      each = All-same IsSide new.receipts.items (old.receipts.items ++ s ∷ []) sides (All-push IsSide old.receipts.items s held.each side);
       numbers_are = λ n. numbers n ∙ ap (λ b. is_number (plain_number (receipt_of s).index) n || b) (held.numbers_are n)
           ∙ sym (number_push (receipts_of old) (receipt_of s) n) ∙ ap (λ rs. has_number rs n) (sym more);
       residents_are = rw more (present_push Resident (receipts_of old) (receipt_of s) old.residents new.residents held.residents_are (rw (← count) at residents));
@@ -102,19 +102,19 @@ held_push old new s held side sides numbers residents programmes =
     }
 
 -- the item of `sides` at place k has the kept receipt at place k
-pub receipt_is : (h : Held) (k : ℕ) (side : Side) → k < length h.sides.items → side ≡ get_or h.sides.items k side → receipt_at (receipts_of h) k ≡ receipt_of side
+pub receipt_is : (h : FolderReceipts) (k : ℕ) (side : ComparedReceipt) → k < length h.receipts.items → side ≡ get_or h.receipts.items k side → receipt_at (receipts_of h) k ≡ receipt_of side
 receipt_is h k side within is = receipt_there h k side within ∙ ap receipt_of (sym is)
 
 -- the look-up of a member's name gives the number of the member's receipt
-pub file_is : (kind : Kind) (rs : List Receipt) (there : Present) (name : List ℕ) → ArePresent kind rs there
+pub file_is : (kind : Kind) (rs : List Receipt) (there : PresentMembers) (name : List ℕ) → ArePresent kind rs there
     → file_in there.files.items (number_in there.names name) ≡ file_named kind rs name
 file_is kind rs there name are = ap₂ (λ (files : List ℕ) (names : Cells). file_in files (number_in names name)) are.files_are are.names_are
 
 -- a receipt past the last one counts as empty and lists nobody
-pub lists_nobody : (h : Held) (k : ℕ) (name : List ℕ) → length h.sides.items ≤ k → is_declared (receipt_at (receipts_of h) k).list name ≡ false
+pub lists_nobody : (h : FolderReceipts) (k : ℕ) (name : List ℕ) → length h.receipts.items ≤ k → is_declared (receipt_at (receipts_of h) k).list name ≡ false
 unfolding plain_text read split_rows number_in
 lists_nobody h k name past =
-    let short : length (receipts_of h) ≤ k = omega (arith, past, length-map h.sides.items receipt_of) in
+    let short : length (receipts_of h) ≤ k = omega (arith, past, length-map h.receipts.items receipt_of) in
     rw (get_or_past (receipts_of h) k (content_of []) short) refl
 
 -- the place of each of a side's receipts is below the number of receipts
@@ -173,20 +173,20 @@ pairs_within rs =
     (all_made P (member_pair rs p) 0 (length (receipt_at rs p).after) (λ k m. with_resident_within rs p _ _ (omega (arith, l)) refl))))
 
 -- what is kept for look-ups in the receipt at place k agrees with this receipt
-pub side_is : (h : Held) (k : ℕ) (side : Side) → IsHeld h → k < length h.sides.items → side ≡ get_or h.sides.items k side → IsSide side
-side_is h k side held within is = subst IsSide (sym is) (All-get_or IsSide h.sides.items k side within held.each)
+pub side_is : (h : FolderReceipts) (k : ℕ) (side : ComparedReceipt) → IsHeld h → k < length h.receipts.items → side ≡ get_or h.receipts.items k side → IsSide side
+side_is h k side held within is = subst IsSide (sym is) (All-get_or IsSide h.receipts.items k side within held.each)
 
 -- both places of the k-th compared pair are places of kept receipts
-pub pair_there : (h : Held) (pairs : Pairs) (k : ℕ) → pairs ≡ pairs_of (receipts_of h) → k < length pairs → ArePlaces (length h.sides.items) (get_or pairs k (0, 0))
+pub pair_there : (h : FolderReceipts) (pairs : Pairs) (k : ℕ) → pairs ≡ pairs_of (receipts_of h) → k < length pairs → ArePlaces (length h.receipts.items) (get_or pairs k (0, 0))
 pair_there h pairs k are within =
-    let count = length-map h.sides.items receipt_of in
+    let count = length-map h.receipts.items receipt_of in
     let P = ArePlaces (length (receipts_of h)) in
     rw (← count) (All-get_or P pairs k (0, 0) within (All-same P pairs (pairs_of (receipts_of h)) are (pairs_within (receipts_of h))))
 
-pub differing_there : (h : Held) (pairs : Pairs) (k : ℕ) → pairs ≡ differing_pairs (receipts_of h) → k < length pairs → ArePlaces (length h.sides.items) (get_or pairs k (0, 0))
+pub differing_there : (h : FolderReceipts) (pairs : Pairs) (k : ℕ) → pairs ≡ differing_pairs (receipts_of h) → k < length pairs → ArePlaces (length h.receipts.items) (get_or pairs k (0, 0))
 differing_there h pairs k are within =
     let rs = receipts_of h in
-    let count = length-map h.sides.items receipt_of in
+    let count = length-map h.receipts.items receipt_of in
     let P = ArePlaces (length rs) in
     rw (← count) (All-get_or P pairs k (0, 0) within (All-same P pairs (differing_pairs rs) are (All-filter (differs rs) P (pairs_of rs) (pairs_within rs))))
 

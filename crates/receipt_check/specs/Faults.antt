@@ -14,8 +14,8 @@ use Rattle.receipt_check.specs.Named.{is_real}
 use Rattle.receipt_check.specs.Shape.{at, shape_fault}
 use Rattle.receipt_check.specs.declared.kind.Kind.{Kind}
 use Rattle.receipt_check.specs.declared.kind.Kind.TheVariants.{Programme, Resident}
-use Rattle.receipt_check.specs.declared.reasons.Stand.{Stand}
-use Rattle.receipt_check.specs.declared.reasons.Stand.TheVariants.{Before, At, After}
+use Rattle.receipt_check.specs.declared.reasons.ChoicePlace.{ChoicePlace}
+use Rattle.receipt_check.specs.declared.reasons.ChoicePlace.TheVariants.{BeforeOwn, Own, AfterOwn}
 use Rattle.receipt_check.specs.declared.wrong.Wrong.{Wrong}
 use Rattle.receipt_check.specs.declared.wrong.Wrong.TheVariants as wrong
 use Rattle.receipt_check.specs.declared.wrong.Fault.{Fault}
@@ -164,23 +164,23 @@ abbrev pub is_later : Cells → Bool
 is_later fields = is_bare (codes "better") fields || is_bare (codes "unranked") fields || is_bare (codes "withdrawn") fields
 
 -- where choice k stands: before, at or after the resident's own programme; before, if the resident has none
-abbrev pub stand_of : Option ℕ → ℕ → Stand
-stand_of None k = Before
-stand_of (Some own) k = if nat_lt k own then Before else if k == own then At else After
+abbrev pub stand_of : Option ℕ → ℕ → ChoicePlace
+stand_of None k = BeforeOwn
+stand_of (Some own) k = if nat_lt k own then BeforeOwn else if k == own then Own else AfterOwn
 
 -- whether a choice that stands so can have this answer; all answers to a withdrawn resident are
 -- `withdrawn`
-abbrev pub can_stand : Bool → Stand → Cells → Bool
+abbrev pub can_stand : Bool → ChoicePlace → Cells → Bool
 can_stand true stand fields = is_bare (codes "withdrawn") fields
-can_stand false Before fields = is_passed fields
-can_stand false At fields = is_bare (codes "matched") fields
-can_stand false After fields = is_later fields
+can_stand false BeforeOwn fields = is_passed fields
+can_stand false Own fields = is_bare (codes "matched") fields
+can_stand false AfterOwn fields = is_later fields
 
 -- what is wrong with an answer that its choice can't have
 abbrev pub answer_wrong : Cells → Wrong
 answer_wrong fields = if bytes_eq (text_at fields 0) (codes "full") then wrong.Full else wrong.Reason
 
-abbrev pub reason_wrong : Bool → Stand → Cells → Option Wrong
+abbrev pub reason_wrong : Bool → ChoicePlace → Cells → Option Wrong
 reason_wrong gone stand fields = if can_stand gone stand fields then None else Some (answer_wrong fields)
 
 -- The whole.

@@ -13,9 +13,9 @@ ghost use Rattle.receipt_check.specs.Told as words;
 use crate::faults::checked_list;
 use crate::rows::{plain_text, split_rows};
 use crate::shape::shape_fault;
-use crate::shown::{Shown, read};
-use crate::told::told;
-use crate::wrong::{Fault, ReceiptFault, Wrong, at};
+use crate::shown::{ReceiptContents, read_contents};
+use crate::told::receipt_words;
+use crate::wrong::{Fault, ReceiptFault, Wrong, row_fault};
 use docket_names::Texts;
 use std::alloc::{AllocError, Global};
 use std::hash::RandomState;
@@ -23,33 +23,34 @@ use std::io::Write;
 use std::random::RandomSource;
 
 /// How many bytes a receipt has at most. The longest receipt that a docket can have is shorter.
-pub(crate) const LONGEST: usize = 8_000_000;
+pub(crate) const LONGEST_RECEIPT: usize = 8_000_000;
 
 /// The content of the receipt with these rows and the names on its list, or the receipt's first fault.
 #[tactic(auto, unfolding(crate::specs::Faults::text_fault))]
-pub(crate) fn checked<'r, 'a>(
+pub(crate) fn checked_contents<'r, 'a>(
     alloc: Global,
     keys: RandomState,
     text: &[u8],
     rows: &'r [Vec<&'a [u8]>],
     lists_root: &[u8; 32],
     result_root: Option<&[u8; 32]>,
-) -> Result<Result<(Shown<'r, 'a>, Texts), Fault>, AllocError>
+) -> Result<Result<(ReceiptContents<'r, 'a>, Texts), Fault>, AllocError>
     requires { rows_in rows.now ≡ form.split_rows text.now }
     ensures { IfOk result (λ answer. MatchResult answer
-        (λ good. (faults.text_fault lists_root.now
+        (λ contents_and_list. (faults.text_fault lists_root.now
         (option_map (λ root. root.now) result_root.entry) text.now ≡ None)
-        × (content good.0 ≡ receipt.read (form.split_rows text.now))
-        × (good.1 ≡ fields_in good.0.list.now) × (lawful.is_name good.0.name.now ≡ true))
+        × (content contents_and_list.0 ≡ receipt.read (form.split_rows text.now))
+        × (contents_and_list.1 ≡ fields_in contents_and_list.0.list.now)
+        × (lawful.is_name contents_and_list.0.name.now ≡ true))
         (λ fault. faults.text_fault lists_root.now
         (option_map (λ root. root.now) result_root.entry) text.now ≡ Some fault)) }
 {
-    let shown = read(rows);
-    if let Some(fault) = shape_fault(alloc, lists_root, result_root, &shown, rows, text)? {
+    let contents = read_contents(rows);
+    if let Some(fault) = shape_fault(alloc, lists_root, result_root, &contents, rows, text)? {
         return Ok(Err(fault));
     }
-    match checked_list(alloc, keys, lists_root, result_root, &shown)? {
-        Ok(list) => Ok(Ok((shown, list))),
+    match checked_list(alloc, keys, lists_root, result_root, &contents)? {
+        Ok(list) => Ok(Ok((contents, list))),
         Err(fault) => Ok(Err(fault)),
     }
 }
@@ -63,16 +64,16 @@ fn words_of(
     result_root: Option<&[u8; 32]>,
 ) -> Result<Result<Vec<u8>, Fault>, AllocError>
     ensures { IfOk result (λ answer. MatchResult answer
-        (λ told. (faults.text_fault lists_root.now
+        (λ sentences. (faults.text_fault lists_root.now
         (option_map (λ root. root.now) result_root.entry) text.now ≡ None)
-        × (told.items ≡ words.told (option_map (λ root. root.now) result_root.entry)
+        × (sentences.items ≡ words.told (option_map (λ root. root.now) result_root.entry)
         (receipt.read (form.split_rows text.now))))
         (λ fault. faults.text_fault lists_root.now
         (option_map (λ root. root.now) result_root.entry) text.now ≡ Some fault)) }
 {
     let rows = split_rows(alloc, text)?;
-    match checked(alloc, keys, text, rows.as_slice(), lists_root, result_root)? {
-        Ok((shown, _)) => Ok(Ok(told(alloc, result_root, &shown)?)),
+    match checked_contents(alloc, keys, text, rows.as_slice(), lists_root, result_root)? {
+        Ok((contents, _)) => Ok(Ok(receipt_words(alloc, result_root, &contents)?)),
         Err(fault) => Ok(Err(fault)),
     }
 }
@@ -86,21 +87,22 @@ fn answer_of<H: RandomSource>(
     result_root: Option<&[u8; 32]>,
 ) -> Result<Vec<u8>, ReceiptFault>
     ensures { MatchResult result
-        (λ told. (receipt_fault lists_root.now
+        (λ sentences. (receipt_fault lists_root.now
         (option_map (λ root. root.now) result_root.entry) bytes.now ≡ None)
-        × (told.items ≡ words.told_of (option_map (λ root. root.now) result_root.entry) bytes.now))
+        × (sentences.items
+        ≡ words.told_of (option_map (λ root. root.now) result_root.entry) bytes.now))
         (IsReceiptFault lists_root.now
         (option_map (λ root. root.now) result_root.entry) bytes.now) }
 {
-    if bytes.len() > LONGEST {
-        return Err(ReceiptFault::Wrong(at(0, Wrong::Long)));
+    if bytes.len() > LONGEST_RECEIPT {
+        return Err(ReceiptFault::Wrong(row_fault(0, Wrong::Long)));
     }
     let Ok(keys) = RandomState::new(rt) else {
         return Err(ReceiptFault::Memory);
     };
     let text = plain_text(alloc, bytes)?;
     match words_of(alloc, keys, text.as_slice(), lists_root, result_root)? {
-        Ok(told) => Ok(told),
+        Ok(sentences) => Ok(sentences),
         Err(fault) => Err(ReceiptFault::Wrong(fault)),
     }
 }

@@ -9,15 +9,15 @@ ghost use Rattle.receipt_check.specs.Rows as form;
 ghost use Rattle.receipt_check.specs.Shown.{content, rows_in};
 ghost use Rattle.receipt_check.specs.Side.{IsSide, receipt_of};
 
-use crate::check::{LONGEST, checked};
+use crate::check::{LONGEST_RECEIPT, checked_contents};
 use crate::difference::{first_difference, is_number};
 use crate::kind::Kind;
 use crate::pair_words::put_pair;
 use crate::published::Published;
 use crate::rows::{plain_text, split_rows};
-use crate::shown::Shown;
-use crate::side::{Side, side_of};
-use crate::wrong::{CompareFault, Fault, Wrong, at};
+use crate::shown::ReceiptContents;
+use crate::side::{ComparedReceipt, compared_receipt};
+use crate::wrong::{CompareFault, Fault, Wrong, row_fault};
 use std::alloc::{AllocError, Global};
 use std::hash::RandomState;
 use std::io::Write;
@@ -27,29 +27,33 @@ use std::random::RandomSource;
 pub(crate) fn short_text(alloc: Global, file: &[u8]) -> Result<Vec<u8>, AllocError>
     ensures { IfOk result (λ text. text.items ≡ pair.short_text file.now) }
 {
-    if file.len() > LONGEST {
+    if file.len() > LONGEST_RECEIPT {
         return Ok(Vec::new(alloc));
     }
     plain_text(alloc, file)
 }
 
 // The fault of a receipt whose number of members isn't the published number.
-fn members_fault(lists: &Published, outcome: &Published, shown: &Shown) -> Option<Fault>
+fn members_fault(
+    lists: &Published,
+    outcome: &Published,
+    contents: &ReceiptContents,
+) -> Option<Fault>
     ensures { result
-        ≡ pair.members_fault lists.now.members outcome.now.members (content shown.now) }
+        ≡ pair.members_fault lists.now.members outcome.now.members (content contents.now) }
 {
-    if !is_number(shown.count, lists.members as usize) {
-        return Some(at(1, Wrong::Members));
+    if !is_number(contents.member_count, lists.members as usize) {
+        return Some(row_fault(1, Wrong::Members));
     }
-    if !is_number(shown.count, outcome.members as usize) {
-        return Some(at(shown.end(), Wrong::Members));
+    if !is_number(contents.member_count, outcome.members as usize) {
+        return Some(row_fault(contents.lists_end(), Wrong::Members));
     }
     None
 }
 
 /// The receipt in the rows of a file's text, or its first fault.
 #[tactic(auto, unfolding(crate::specs::Pair::compared_fault))]
-pub(crate) fn compared<'r, 'a>(
+pub(crate) fn checked_receipt<'r, 'a>(
     alloc: Global,
     keys: RandomState,
     lists: &Published,
@@ -57,43 +61,50 @@ pub(crate) fn compared<'r, 'a>(
     file: &[u8],
     text: &[u8],
     rows: &'r [Vec<&'a [u8]>],
-) -> Result<Result<Side<'r, 'a>, Fault>, AllocError>
+) -> Result<Result<ComparedReceipt<'r, 'a>, Fault>, AllocError>
     requires text { text.now ≡ pair.short_text file.now }
     requires rows { rows_in rows.now ≡ form.split_rows text.now }
     ensures { IfOk result (λ answer. MatchResult answer
-        (λ side. (pair.compared_fault lists.now.members lists.now.root outcome.now.members
-        outcome.now.root file.now ≡ None) × (receipt_of side ≡ content_of file.now)
-        × IsSide side × (words.is_name (content_of file.now).name ≡ true))
+        (λ receipt. (pair.compared_fault lists.now.members lists.now.root outcome.now.members
+        outcome.now.root file.now ≡ None) × (receipt_of receipt ≡ content_of file.now)
+        × IsSide receipt × (words.is_name (content_of file.now).name ≡ true))
         (λ fault. pair.compared_fault lists.now.members lists.now.root outcome.now.members
         outcome.now.root file.now ≡ Some fault)) }
 {
-    if file.len() > LONGEST {
-        return Ok(Err(at(0, Wrong::Long)));
+    if file.len() > LONGEST_RECEIPT {
+        return Ok(Err(row_fault(0, Wrong::Long)));
     }
-    let (shown, list) = match checked(alloc, keys, text, rows, &lists.root, Some(&outcome.root))? {
-        Ok(good) => good,
+    let (contents, list) = match checked_contents(
+        alloc,
+        keys,
+        text,
+        rows,
+        &lists.root,
+        Some(&outcome.root),
+    )? {
+        Ok(contents_and_list) => contents_and_list,
         Err(fault) => return Ok(Err(fault)),
     };
-    match members_fault(lists, outcome, &shown) {
+    match members_fault(lists, outcome, &contents) {
         Some(fault) => Ok(Err(fault)),
-        None => Ok(Ok(side_of(shown, list))),
+        None => Ok(Ok(compared_receipt(contents, list))),
     }
 }
 
-// The fault of a receipt whose member is of side `kind` and has to be of side `wanted`.
-fn kind_fault(wanted: Kind, kind: Kind) -> Option<Fault>
-    ensures { result ≡ pair.kind_fault wanted kind }
+// The fault of a receipt whose member is of side `kind` and has to be of side `wanted_kind`.
+fn kind_fault(wanted_kind: Kind, kind: Kind) -> Option<Fault>
+    ensures { result ≡ pair.kind_fault wanted_kind kind }
 {
-    match (wanted, kind) {
-        (Kind::Programme, Kind::Resident) => Some(at(0, Wrong::NotProgramme)),
-        (Kind::Resident, Kind::Programme) => Some(at(0, Wrong::NotResident)),
+    match (wanted_kind, kind) {
+        (Kind::Programme, Kind::Resident) => Some(row_fault(0, Wrong::NotProgramme)),
+        (Kind::Resident, Kind::Programme) => Some(row_fault(0, Wrong::NotResident)),
         _ => None,
     }
 }
 
 // The receipt in the rows of a file's text, whose member has to be of this side, or its first
 // fault.
-fn wanted<'r, 'a>(
+fn receipt_of_kind<'r, 'a>(
     alloc: Global,
     keys: RandomState,
     kind: Kind,
@@ -102,22 +113,23 @@ fn wanted<'r, 'a>(
     file: &[u8],
     text: &[u8],
     rows: &'r [Vec<&'a [u8]>],
-) -> Result<Result<Side<'r, 'a>, Fault>, AllocError>
+) -> Result<Result<ComparedReceipt<'r, 'a>, Fault>, AllocError>
     requires text { text.now ≡ pair.short_text file.now }
     requires rows { rows_in rows.now ≡ form.split_rows text.now }
     ensures { IfOk result (λ answer. MatchResult answer
-        (λ side. (pair.side_fault kind lists.now.members lists.now.root outcome.now.members
-        outcome.now.root file.now ≡ None) × (receipt_of side ≡ content_of file.now) × IsSide side)
+        (λ receipt. (pair.side_fault kind lists.now.members lists.now.root outcome.now.members
+        outcome.now.root file.now ≡ None) × (receipt_of receipt ≡ content_of file.now)
+        × IsSide receipt)
         (λ fault. pair.side_fault kind lists.now.members lists.now.root outcome.now.members
         outcome.now.root file.now ≡ Some fault)) }
 {
-    let side = match compared(alloc, keys, lists, outcome, file, text, rows)? {
-        Ok(side) => side,
+    let receipt = match checked_receipt(alloc, keys, lists, outcome, file, text, rows)? {
+        Ok(receipt) => receipt,
         Err(fault) => return Ok(Err(fault)),
     };
-    match kind_fault(kind, side.shown.kind) {
+    match kind_fault(kind, receipt.contents.kind) {
         Some(fault) => Ok(Err(fault)),
-        None => Ok(Ok(side)),
+        None => Ok(Ok(receipt)),
     }
 }
 
@@ -145,7 +157,7 @@ fn pair_of(
     let resident_rows = split_rows(alloc, resident_text.as_slice())?;
     let programme_rows = split_rows(alloc, programme_text.as_slice())?;
     let (text, rows) = (resident_text.as_slice(), resident_rows.as_slice());
-    let resident_side = match wanted(
+    let resident_receipt = match receipt_of_kind(
         alloc,
         keys,
         Kind::Resident,
@@ -155,11 +167,11 @@ fn pair_of(
         text,
         rows,
     )? {
-        Ok(side) => side,
+        Ok(receipt) => receipt,
         Err(fault) => return Err(CompareFault::Wrong(0, fault)),
     };
     let (text, rows) = (programme_text.as_slice(), programme_rows.as_slice());
-    let programme_side = match wanted(
+    let programme_receipt = match receipt_of_kind(
         alloc,
         keys,
         Kind::Programme,
@@ -169,13 +181,18 @@ fn pair_of(
         text,
         rows,
     )? {
-        Ok(side) => side,
+        Ok(receipt) => receipt,
         Err(fault) => return Err(CompareFault::Wrong(1, fault)),
     };
-    let found = first_difference(&resident_side, &programme_side);
+    let difference = first_difference(&resident_receipt, &programme_receipt);
     let mut sentence = Vec::new(alloc);
-    put_pair(&mut sentence, found, &resident_side, &programme_side)?;
-    Ok((sentence, found.is_none()))
+    put_pair(
+        &mut sentence,
+        difference,
+        &resident_receipt,
+        &programme_receipt,
+    )?;
+    Ok((sentence, difference.is_none()))
 }
 
 /// Checks the receipts of a resident and of a programme against what was published. Writes whether they agree, or in

@@ -8,7 +8,7 @@ ghost use Rattle.receipt_check.specs.Side.{IsSide, receipt_of};
 
 use crate::opening::plain_number;
 use crate::rows::{field, is};
-use crate::side::Side;
+use crate::side::ComparedReceipt;
 
 /// The first thing in which the receipts of a resident and a programme differ.
 #[derive(Clone, Copy, Debug, PartialEq, Eq)]
@@ -35,96 +35,110 @@ pub enum Difference {
 }
 
 /// Whether the answer is this word.
-pub(crate) fn says(fields: &[&[u8]], word: &[u8]) -> bool
-    ensures { result ≡ pair.says (fields_in fields.now) word.now }
+pub(crate) fn says(answer: &[&[u8]], word: &[u8]) -> bool
+    ensures { result ≡ pair.says (fields_in answer.now) word.now }
 {
-    is(field(fields, 0), word)
+    is(field(answer, 0), word)
 }
 
 /// Whether the digits write this number.
-pub(crate) fn is_number(digits: &[u8], n: usize) -> bool
-    ensures { result ≡ pair.is_number (plain_number_in digits.now) n }
+pub(crate) fn is_number(digits: &[u8], number: usize) -> bool
+    ensures { result ≡ pair.is_number (plain_number_in digits.now) number }
 {
     match plain_number(digits) {
-        Some(m) => m as usize == n,
+        Some(written_number) => written_number as usize == number,
         None => false,
     }
 }
 
 // Whether the digits write this place, counted from 1. Without a place there may be no digits.
 fn is_place(digits: &[u8], place: Option<usize>) -> bool
-    requires { IfSome place (λ k. k < 2 ^ 63) }
+    requires { IfSome place (λ place. place < 2 ^ 63) }
     ensures { result ≡ pair.is_place digits.now place }
 {
     match place {
-        Some(k) => is_number(digits, k + 1),
+        Some(place) => is_number(digits, place + 1),
         None => digits.len() == 0,
     }
 }
 
 /// Whether the resident or the programme is withdrawn.
-pub(crate) fn is_gone(resident: &Side, programme: &Side) -> bool
+pub(crate) fn is_withdrawn(resident: &ComparedReceipt, programme: &ComparedReceipt) -> bool
     ensures { result ≡ pair.is_gone (receipt_of resident.now) (receipt_of programme.now) }
 {
-    resident.shown.gone || programme.shown.gone
+    resident.contents.withdrawn || programme.contents.withdrawn
 }
 
 // The first difference between the answer `full` and the programme's receipt. The programme lists the
 // resident at the place `rank`.
-fn full_difference(fields: &[&[u8]], rank: Option<usize>, programme: &Side) -> Option<Difference>
+fn full_difference(
+    answer: &[&[u8]],
+    rank: Option<usize>,
+    programme: &ComparedReceipt,
+) -> Option<Difference>
     requires rank { IfSome rank (λ k. k < 2 ^ 63) }
     requires programme { IsSide programme.now }
-    ensures { result ≡ pair.full_difference (fields_in fields.now) rank (receipt_of programme.now) }
+    ensures { result ≡ pair.full_difference (fields_in answer.now) rank (receipt_of programme.now) }
 {
-    if !is_place(field(fields, 1), rank) {
+    if !is_place(field(answer, 1), rank) {
         return Some(Difference::Rank);
     }
-    if !is(field(fields, 3), programme.shown.quota) {
+    if !is(field(answer, 3), programme.contents.quota) {
         return Some(Difference::Quota);
     }
-    if !is_number(programme.shown.quota, programme.shown.after.len()) {
+    if !is_number(
+        programme.contents.quota,
+        programme.contents.detail_rows.len(),
+    ) {
         return Some(Difference::Filled);
     }
-    if !is_place(field(fields, 2), programme.last) {
+    if !is_place(field(answer, 2), programme.last_member_place) {
         return Some(Difference::Last);
     }
     None
 }
 
 // The first difference between a resident's answer about a programme and the programme's receipt.
-fn answer_difference(fields: &[&[u8]], resident: &Side, programme: &Side) -> Option<Difference>
+fn answer_difference(
+    answer: &[&[u8]],
+    resident: &ComparedReceipt,
+    programme: &ComparedReceipt,
+) -> Option<Difference>
     requires { IsSide programme.now }
-    ensures { result ≡ pair.answer_difference (fields_in fields.now)
+    ensures { result ≡ pair.answer_difference (fields_in answer.now)
         (number_in (receipt_of programme.now).list (receipt_of resident.now).name)
         (receipt_of resident.now) (receipt_of programme.now) }
 {
-    let gone = is_gone(resident, programme);
-    let rank = programme.place(resident.shown.name);
-    if says(fields, b"withdrawn") != gone {
+    let withdrawn = is_withdrawn(resident, programme);
+    let rank = programme.place(resident.contents.name);
+    if says(answer, b"withdrawn") != withdrawn {
         return Some(Difference::Withdrawn);
     }
-    if !gone && says(fields, b"unranked") == rank.is_some() {
+    if !withdrawn && says(answer, b"unranked") == rank.is_some() {
         return Some(Difference::Unranked);
     }
-    if says(fields, b"matched") != programme.has(resident.shown.name) {
+    if says(answer, b"matched") != programme.has(resident.contents.name) {
         return Some(Difference::Matched);
     }
-    if says(fields, b"full") {
-        return full_difference(fields, rank, programme);
+    if says(answer, b"full") {
+        return full_difference(answer, rank, programme);
     }
     None
 }
 
 /// The first thing in which the receipts of a resident and a programme differ, if they do.
 #[tactic(auto, unfolding(crate::specs::Pair::difference))]
-pub(crate) fn first_difference(resident: &Side, programme: &Side) -> Option<Difference>
+pub(crate) fn first_difference(
+    resident: &ComparedReceipt,
+    programme: &ComparedReceipt,
+) -> Option<Difference>
     requires resident { IsSide resident.now }
     requires programme { IsSide programme.now }
     ensures { result ≡ pair.difference (receipt_of resident.now) (receipt_of programme.now) }
 {
-    match resident.place(programme.shown.name) {
-        Some(k) => answer_difference(resident.shown.answer(k), resident, programme),
-        None if programme.has(resident.shown.name) => Some(Difference::Unlisted),
+    match resident.place(programme.contents.name) {
+        Some(choice) => answer_difference(resident.contents.answer(choice), resident, programme),
+        None if programme.has(resident.contents.name) => Some(Difference::Unlisted),
         None => None,
     }
 }

@@ -11,77 +11,78 @@ use crate::names::names_in;
 use crate::opening::{openings_fault, plain_number};
 use crate::reasons::wrong_reason;
 use crate::rows::cell;
-use crate::shown::{Shown, has_real_name, list_place, named_place};
-use crate::wrong::{Fault, Wrong, at};
+use crate::shown::{ReceiptContents, has_real_name, list_place, real_name_place};
+use crate::wrong::{Fault, Wrong, row_fault};
 use docket_names::{Texts, is_name};
 use std::alloc::{AllocError, Global};
 use std::hash::RandomState;
 
-// The place in the receipt of row `k` of the result's text.
-fn result_place(shown: &Shown, k: usize) -> usize
-    requires { k < 2 ^ 63 }
-    ensures { result ≡ faults.result_place (content shown.now) k }
+// The place in the receipt of this row of the result's text, counted from 0.
+fn result_place(contents: &ReceiptContents, row: usize) -> usize
+    requires { row < 2 ^ 63 }
+    ensures { result ≡ faults.result_place (content contents.now) row }
 {
-    shown.end() + 2 + k
+    contents.lists_end() + 2 + row
 }
 
-// The first fault of a resident's answers. `own` is the choice that is the resident's own
+// The first fault of a resident's answers. `own_choice` is the choice that is the resident's own
 // programme.
-fn reasons_fault(shown: &Shown, own: Option<usize>) -> Option<Fault>
-    ensures { result ≡ faults.reasons_fault (content shown.now) own }
+fn reasons_fault(contents: &ReceiptContents, own_choice: Option<usize>) -> Option<Fault>
+    ensures { result ≡ faults.reasons_fault (content contents.now) own_choice }
 {
-    match wrong_reason(shown, own) {
-        Some((k, wrong)) => Some(at(result_place(shown, k + 1), wrong)),
+    match wrong_reason(contents, own_choice) {
+        Some((choice, defect)) => Some(row_fault(result_place(contents, choice + 1), defect)),
         None => None,
     }
 }
 
 // The first fault of the result of a resident with this list.
-fn resident_fault(shown: &Shown, list: &Texts) -> Option<Fault>
-    requires { list.now ≡ fields_in shown.now.list.now }
-    ensures { result ≡ faults.resident_fault (content shown.now)
-        (option_map (λ own. own.now) shown.now.own) }
+fn resident_fault(contents: &ReceiptContents, list: &Texts) -> Option<Fault>
+    requires { list.now ≡ fields_in contents.now.list.now }
+    ensures { result ≡ faults.resident_fault (content contents.now)
+        (option_map (λ own_programme. own_programme.now) contents.now.own_programme) }
 {
-    let Some(own) = shown.own else {
-        return reasons_fault(shown, None);
+    let Some(own_programme) = contents.own_programme else {
+        return reasons_fault(contents, None);
     };
-    if shown.gone {
-        return Some(at(result_place(shown, 0), Wrong::Gone));
+    if contents.withdrawn {
+        return Some(row_fault(result_place(contents, 0), Wrong::Gone));
     }
-    match list.find(own) {
-        None => Some(at(result_place(shown, 0), Wrong::NotListed)),
-        Some(place) => reasons_fault(shown, Some(place)),
+    match list.find(own_programme) {
+        None => Some(row_fault(result_place(contents, 0), Wrong::NotListed)),
+        Some(place) => reasons_fault(contents, Some(place)),
     }
 }
 
 /// The residents of a programme.
 pub(crate) fn members_in<'r, 'a>(
     alloc: Global,
-    shown: &Shown<'r, 'a>,
+    contents: &ReceiptContents<'r, 'a>,
 ) -> Result<Vec<&'a [u8]>, AllocError>
-    ensures { IfOk result (λ found. fields_in found.items ≡ members (content shown.now)) }
+    ensures { IfOk result (λ member_names.
+        fields_in member_names.items ≡ members (content contents.now)) }
 {
-    let mut found = Vec::new(alloc);
-    for k in 0..shown.after.len() {
-        found.push(cell(shown.after, k, 1))?;
+    let mut member_names = Vec::new(alloc);
+    for k in 0..contents.detail_rows.len() {
+        member_names.push(cell(contents.detail_rows, k, 1))?;
     }
-    Ok(found)
+    Ok(member_names)
 }
 
 // The first fault among the residents of a programme with this list.
 fn members_fault(
     alloc: Global,
     keys: RandomState,
-    shown: &Shown,
+    contents: &ReceiptContents,
     list: &Texts,
 ) -> Result<Option<Fault>, AllocError>
-    requires { list.now ≡ fields_in shown.now.list.now }
-    ensures { IfOk result (λ fault. fault ≡ faults.members_fault (content shown.now)) }
+    requires { list.now ≡ fields_in contents.now.list.now }
+    ensures { IfOk result (λ fault. fault ≡ faults.members_fault (content contents.now)) }
 {
-    let found = members_in(alloc, shown)?;
-    match names_in(alloc, keys, Some(list), found.as_slice())? {
+    let member_names = members_in(alloc, contents)?;
+    match names_in(alloc, keys, Some(list), member_names.as_slice())? {
         Ok(_) => Ok(None),
-        Err((k, wrong)) => Ok(Some(at(result_place(shown, k + 1), wrong))),
+        Err((member, defect)) => Ok(Some(row_fault(result_place(contents, member + 1), defect))),
     }
 }
 
@@ -89,76 +90,76 @@ fn members_fault(
 fn programme_fault(
     alloc: Global,
     keys: RandomState,
-    shown: &Shown,
+    contents: &ReceiptContents,
     list: &Texts,
 ) -> Result<Option<Fault>, AllocError>
-    requires { list.now ≡ fields_in shown.now.list.now }
-    ensures { IfOk result (λ fault. fault ≡ faults.programme_fault (content shown.now)
-        (faults.plain_number shown.now.quota.now)) }
+    requires { list.now ≡ fields_in contents.now.list.now }
+    ensures { IfOk result (λ fault. fault ≡ faults.programme_fault (content contents.now)
+        (faults.plain_number contents.now.quota.now)) }
 {
-    let Some(quota) = plain_number(shown.quota) else {
-        return Ok(Some(at(3, Wrong::Numbers)));
+    let Some(quota) = plain_number(contents.quota) else {
+        return Ok(Some(row_fault(3, Wrong::Numbers)));
     };
-    if (quota as usize) < shown.after.len() {
-        return Ok(Some(at(result_place(shown, 0), Wrong::Numbers)));
+    if (quota as usize) < contents.detail_rows.len() {
+        return Ok(Some(row_fault(result_place(contents, 0), Wrong::Numbers)));
     }
-    if shown.gone && shown.after.len() > 0 {
-        return Ok(Some(at(result_place(shown, 0), Wrong::Gone)));
+    if contents.withdrawn && contents.detail_rows.len() > 0 {
+        return Ok(Some(row_fault(result_place(contents, 0), Wrong::Gone)));
     }
-    members_fault(alloc, keys, shown, list)
+    members_fault(alloc, keys, contents, list)
 }
 
 // The first fault of the result of a member with this list.
 fn result_fault(
     alloc: Global,
     keys: RandomState,
-    shown: &Shown,
+    contents: &ReceiptContents,
     list: &Texts,
 ) -> Result<Option<Fault>, AllocError>
-    requires { list.now ≡ fields_in shown.now.list.now }
+    requires { list.now ≡ fields_in contents.now.list.now }
     ensures { IfOk result (λ fault. fault
-        ≡ faults.result_fault_of shown.now.kind (content shown.now)) }
+        ≡ faults.result_fault_of contents.now.kind (content contents.now)) }
 {
-    match shown.kind {
-        Kind::Programme => programme_fault(alloc, keys, shown, list),
-        Kind::Resident => Ok(resident_fault(shown, list)),
+    match contents.kind {
+        Kind::Programme => programme_fault(alloc, keys, contents, list),
+        Kind::Resident => Ok(resident_fault(contents, list)),
     }
 }
 
 // The fault of the real name's row, if there is such a row.
-fn real_fault(alloc: Global, shown: &Shown) -> Result<Option<Fault>, AllocError>
-    ensures { IfOk result (λ fault. fault ≡ faults.real_fault (content shown.now)) }
+fn real_name_fault(alloc: Global, contents: &ReceiptContents) -> Result<Option<Fault>, AllocError>
+    ensures { IfOk result (λ fault. fault ≡ faults.real_fault (content contents.now)) }
 {
-    if !has_real_name(shown.named) || is_real(alloc, shown.named)? {
+    if !has_real_name(contents.name_pieces) || is_real(alloc, contents.name_pieces)? {
         return Ok(None);
     }
-    let place = named_place(shown.has_list, shown.gone);
-    Ok(Some(at(place, Wrong::RealName)))
+    let place = real_name_place(contents.has_list, contents.withdrawn);
+    Ok(Some(row_fault(place, Wrong::RealName)))
 }
 
 // The names on a member's list, or the first fault of the member's name, quota, list and real name.
 fn lists_in(
     alloc: Global,
     keys: RandomState,
-    shown: &Shown,
+    contents: &ReceiptContents,
 ) -> Result<Result<Texts, Fault>, AllocError>
     ensures { IfOk result (λ answer. MatchResult answer
-        (λ list. (list ≡ fields_in shown.now.list.now)
-        × (faults.lists_fault (content shown.now) ≡ None)
-        × (words.is_name shown.now.name.now ≡ true))
-        (λ fault. faults.lists_fault (content shown.now) ≡ Some fault)) }
+        (λ list. (list ≡ fields_in contents.now.list.now)
+        × (faults.lists_fault (content contents.now) ≡ None)
+        × (words.is_name contents.now.name.now ≡ true))
+        (λ fault. faults.lists_fault (content contents.now) ≡ Some fault)) }
 {
-    if !is_name(shown.name) {
-        return Ok(Err(at(0, Wrong::Name)));
+    if !is_name(contents.name) {
+        return Ok(Err(row_fault(0, Wrong::Name)));
     }
-    if shown.kind.is_programme() && plain_number(shown.quota).is_none() {
-        return Ok(Err(at(3, Wrong::Numbers)));
+    if contents.kind.is_programme() && plain_number(contents.quota).is_none() {
+        return Ok(Err(row_fault(3, Wrong::Numbers)));
     }
-    let list = match names_in(alloc, keys, None, shown.list)? {
+    let list = match names_in(alloc, keys, None, contents.list)? {
         Ok(list) => list,
-        Err((_, wrong)) => return Ok(Err(at(list_place(shown.has_list), wrong))),
+        Err((_, defect)) => return Ok(Err(row_fault(list_place(contents.has_list), defect))),
     };
-    match real_fault(alloc, shown)? {
+    match real_name_fault(alloc, contents)? {
         Some(fault) => Ok(Err(fault)),
         None => Ok(Ok(list)),
     }
@@ -171,24 +172,24 @@ pub(crate) fn checked_list(
     keys: RandomState,
     lists_root: &[u8; 32],
     result_root: Option<&[u8; 32]>,
-    shown: &Shown,
+    contents: &ReceiptContents,
 ) -> Result<Result<Texts, Fault>, AllocError>
     ensures { IfOk result (λ answer. MatchResult answer
-        (λ list. (list ≡ fields_in shown.now.list.now) × (faults.value_fault lists_root.now
-        (option_map (λ root. root.now) result_root.entry) (content shown.now) ≡ None)
-        × (words.is_name shown.now.name.now ≡ true))
+        (λ list. (list ≡ fields_in contents.now.list.now) × (faults.value_fault lists_root.now
+        (option_map (λ root. root.now) result_root.entry) (content contents.now) ≡ None)
+        × (words.is_name contents.now.name.now ≡ true))
         (λ fault. faults.value_fault lists_root.now
-        (option_map (λ root. root.now) result_root.entry) (content shown.now) ≡ Some fault)) }
+        (option_map (λ root. root.now) result_root.entry) (content contents.now) ≡ Some fault)) }
 {
-    if let Some(fault) = openings_fault(alloc, lists_root, result_root, shown)? {
+    if let Some(fault) = openings_fault(alloc, lists_root, result_root, contents)? {
         return Ok(Err(fault));
     }
-    let list = match lists_in(alloc, keys, shown)? {
+    let list = match lists_in(alloc, keys, contents)? {
         Ok(list) => list,
         Err(fault) => return Ok(Err(fault)),
     };
     if result_root.is_some() {
-        if let Some(fault) = result_fault(alloc, keys, shown, &list)? {
+        if let Some(fault) = result_fault(alloc, keys, contents, &list)? {
             return Ok(Err(fault));
         }
     }

@@ -14,59 +14,59 @@ use crate::difference::first_difference;
 use crate::kind::Kind;
 use crate::opening::plain_number;
 use crate::pair_words::put_pair;
-use crate::present::Present;
+use crate::present::PresentMembers;
 use crate::print::{put, put_number};
 use crate::rows::{cell, field};
-use crate::side::Side;
+use crate::side::ComparedReceipt;
 use std::alloc::{AllocError, Global};
 use std::hash::RandomState;
 
 /// The receipts of a folder, and what is kept for looking things up in them.
 #[derive(Drop)]
-pub(crate) struct Held<'r, 'a> {
-    sides: Vec<Side<'r, 'a>>,
+pub(crate) struct FolderReceipts<'r, 'a> {
+    receipts: Vec<ComparedReceipt<'r, 'a>>,
     // For each member's number, whether the member's receipt is there.
     numbers: Vec<bool>,
-    residents: Present,
-    programmes: Present,
+    residents: PresentMembers,
+    programmes: PresentMembers,
 }
 
 // Whether this number is noted.
-fn is_noted(numbers: &[bool], n: usize) -> bool
-    ensures { result ≡ slice_index_or numbers.now n false }
+fn is_noted(noted_numbers: &[bool], number: usize) -> bool
+    ensures { result ≡ slice_index_or noted_numbers.now number false }
 {
-    match numbers.get(n) {
+    match noted_numbers.get(number) {
         Some(noted) => *noted,
         None => false,
     }
 }
 
 // Notes a number.
-fn note(numbers: &mut Vec<bool>, n: usize) -> Result<(), AllocError>
-    ensures { OnOk result ((m : ℕ) → slice_index_or numbers.new.items m false
-        ≡ (nat_eq m n || slice_index_or numbers.old.items m false)) }
+fn set_noted(noted_numbers: &mut Vec<bool>, number: usize) -> Result<(), AllocError>
+    ensures { OnOk result ((m : ℕ) → slice_index_or noted_numbers.new.items m false
+        ≡ (nat_eq m number || slice_index_or noted_numbers.old.items m false)) }
 {
-    if n >= numbers.len() {
-        let Some(len) = n.checked_add(1) else {
+    if number >= noted_numbers.len() {
+        let Some(len) = number.checked_add(1) else {
             return Err(AllocError);
         };
-        numbers.resize(len, false)?;
+        noted_numbers.resize(len, false)?;
     }
-    numbers[n] = true;
+    noted_numbers[number] = true;
     Ok(())
 }
 
-impl<'r, 'a> Held<'r, 'a> {
+impl<'r, 'a> FolderReceipts<'r, 'a> {
     /// A folder without receipts.
-    pub(crate) fn new(alloc: Global, keys: RandomState) -> Held<'r, 'a>
+    pub(crate) fn new(alloc: Global, keys: RandomState) -> FolderReceipts<'r, 'a>
         ensures none { receipts_of result ≡ [] }
         ensures held { IsHeld result }
     {
-        Held {
-            sides: Vec::new(alloc),
+        FolderReceipts {
+            receipts: Vec::new(alloc),
             numbers: Vec::new(alloc),
-            residents: Present::new(alloc, keys),
-            programmes: Present::new(alloc, keys),
+            residents: PresentMembers::new(alloc, keys),
+            programmes: PresentMembers::new(alloc, keys),
         }
     }
 
@@ -77,7 +77,7 @@ impl<'r, 'a> Held<'r, 'a> {
             ≡ folder.has_number_if (receipts_of self.now) (plain_number_in digits.now) }
     {
         match plain_number(digits) {
-            Some(n) => is_noted(self.numbers.as_slice(), n as usize),
+            Some(number) => is_noted(self.numbers.as_slice(), number as usize),
             None => false,
         }
     }
@@ -94,16 +94,17 @@ impl<'r, 'a> Held<'r, 'a> {
     }
 
     /// Whether the folder has a receipt of the same member already.
-    pub(crate) fn has(&self, side: &Side) -> bool
+    pub(crate) fn has(&self, receipt: &ComparedReceipt) -> bool
         requires { IsHeld self.now }
-        ensures { result ≡ folder.is_again (receipts_of self.now) (receipt_of side.now) }
+        ensures { result ≡ folder.is_again (receipts_of self.now) (receipt_of receipt.now) }
     {
-        self.has_number(side.shown.index) || self.has_name(side.shown.kind, side.shown.name)
+        self.has_number(receipt.contents.member_index)
+            || self.has_name(receipt.contents.kind, receipt.contents.name)
     }
 
     // Notes the number that these digits write, if they write one.
     fn note_number(&mut self, digits: &[u8]) -> Result<(), AllocError>
-        ensures sides { self.new.sides ≡ self.old.sides }
+        ensures sides { self.new.receipts ≡ self.old.receipts }
         ensures residents { self.new.residents ≡ self.old.residents }
         ensures programmes { self.new.programmes ≡ self.old.programmes }
         ensures noted { OnOk result ((m : ℕ) → slice_index_or self.new.numbers.items m false
@@ -111,43 +112,47 @@ impl<'r, 'a> Held<'r, 'a> {
             || slice_index_or self.old.numbers.items m false)) }
     {
         match plain_number(digits) {
-            Some(n) => note(&mut self.numbers, n as usize),
+            Some(number) => set_noted(&mut self.numbers, number as usize),
             None => Ok(()),
         }
     }
 
     /// Adds the receipt of a member who has none in the folder yet.
-    pub(crate) fn add(&mut self, side: Side<'r, 'a>) -> Result<(), AllocError>
+    pub(crate) fn add(&mut self, receipt: ComparedReceipt<'r, 'a>) -> Result<(), AllocError>
         requires held { IsHeld self.old }
-        requires side { IsSide side }
-        requires lawful { words.is_name (receipt_of side).name ≡ true }
-        requires fresh { folder.is_again (receipts_of self.old) (receipt_of side) ≡ false }
+        requires side { IsSide receipt }
+        requires lawful { words.is_name (receipt_of receipt).name ≡ true }
+        requires fresh { folder.is_again (receipts_of self.old) (receipt_of receipt) ≡ false }
         ensures added { OnOk result
-            (receipts_of self.new ≡ receipts_of self.old ++ receipt_of side.entry ∷ []) }
+            (receipts_of self.new ≡ receipts_of self.old ++ receipt_of receipt.entry ∷ []) }
         ensures held { OnOk result (IsHeld self.new) }
     {
-        let file = self.sides.len();
-        match side.shown.kind {
-            Kind::Programme => self.programmes.add(side.shown.name, file)?,
-            Kind::Resident => self.residents.add(side.shown.name, file)?,
+        let file = self.receipts.len();
+        match receipt.contents.kind {
+            Kind::Programme => self.programmes.add(receipt.contents.name, file)?,
+            Kind::Resident => self.residents.add(receipt.contents.name, file)?,
         }
-        self.note_number(side.shown.index)?;
-        self.sides.push(side)?;
+        self.note_number(receipt.contents.member_index)?;
+        self.receipts.push(receipt)?;
         Ok(())
     }
 
     // Adds the pairs of a resident's receipt with the receipts of the programmes on the resident's
     // list.
-    fn push_choices(&self, pairs: &mut Vec<(usize, usize)>, r: usize) -> Result<(), AllocError>
+    fn push_choices(
+        &self,
+        pairs: &mut Vec<(usize, usize)>,
+        resident_file: usize,
+    ) -> Result<(), AllocError>
         requires held { IsHeld self.now }
-        requires within { r < length self.now.sides.items }
+        requires within { resident_file < length self.now.receipts.items }
         ensures { OnOk result (pairs.new.items
-            ≡ pairs.old.items ++ folder.choice_pairs (receipts_of self.now) r) }
+            ≡ pairs.old.items ++ folder.choice_pairs (receipts_of self.now) resident_file) }
     {
-        let list = self.sides[r].shown.list;
+        let list = self.receipts[resident_file].contents.list;
         for k in 0..list.len() {
             match self.programmes.file(field(list, k)) {
-                Some(p) => pairs.push((r, p))?,
+                Some(programme_file) => pairs.push((resident_file, programme_file))?,
                 None => {}
             }
         }
@@ -155,12 +160,13 @@ impl<'r, 'a> Held<'r, 'a> {
     }
 
     // Whether the resident's receipt with this number lists the programme with this name.
-    fn lists(&self, r: usize, name: &[u8]) -> bool
+    fn lists(&self, resident_file: usize, name: &[u8]) -> bool
         requires held { IsHeld self.now }
-        ensures { result ≡ is_declared (folder.receipt_at (receipts_of self.now) r).list name.now }
+        ensures { result
+            ≡ is_declared (folder.receipt_at (receipts_of self.now) resident_file).list name.now }
     {
-        match self.sides.get(r) {
-            Some(side) => side.list.find(name).is_some(),
+        match self.receipts.get(resident_file) {
+            Some(receipt) => receipt.list.find(name).is_some(),
             None => false,
         }
     }
@@ -170,32 +176,42 @@ impl<'r, 'a> Held<'r, 'a> {
     fn push_unlisted(
         &self,
         pairs: &mut Vec<(usize, usize)>,
-        r: usize,
+        resident_file: usize,
         name: &[u8],
-        p: usize,
+        programme_file: usize,
     ) -> Result<(), AllocError>
         requires held { IsHeld self.now }
         ensures { OnOk result (pairs.new.items ≡ pairs.old.items
-            ++ (if is_declared (folder.receipt_at (receipts_of self.now) r).list name.now
-            then [] else (r, p) ∷ [])) }
+            ++ (if is_declared
+            (folder.receipt_at (receipts_of self.now) resident_file).list name.now
+            then [] else (resident_file, programme_file) ∷ [])) }
     {
-        if !self.lists(r, name) {
-            pairs.push((r, p))?;
+        if !self.lists(resident_file, name) {
+            pairs.push((resident_file, programme_file))?;
         }
         Ok(())
     }
 
     // Adds the pairs of a programme's receipt with the receipts of its residents who don't list it.
-    fn push_members(&self, pairs: &mut Vec<(usize, usize)>, p: usize) -> Result<(), AllocError>
+    fn push_members(
+        &self,
+        pairs: &mut Vec<(usize, usize)>,
+        programme_file: usize,
+    ) -> Result<(), AllocError>
         requires held { IsHeld self.now }
-        requires within { p < length self.now.sides.items }
+        requires within { programme_file < length self.now.receipts.items }
         ensures { OnOk result (pairs.new.items
-            ≡ pairs.old.items ++ folder.member_pairs (receipts_of self.now) p) }
+            ≡ pairs.old.items ++ folder.member_pairs (receipts_of self.now) programme_file) }
     {
-        let shown = self.sides[p].shown;
-        for k in 0..shown.after.len() {
-            match self.residents.file(cell(shown.after, k, 1)) {
-                Some(r) => self.push_unlisted(pairs, r, shown.name, p)?,
+        let contents = self.receipts[programme_file].contents;
+        for k in 0..contents.detail_rows.len() {
+            match self.residents.file(cell(contents.detail_rows, k, 1)) {
+                Some(resident_file) => self.push_unlisted(
+                    pairs,
+                    resident_file,
+                    contents.name,
+                    programme_file,
+                )?,
                 None => {}
             }
         }
@@ -209,8 +225,8 @@ impl<'r, 'a> Held<'r, 'a> {
             ++ flat_map (folder.resident_pairs (receipts_of self.now))
             (range_with_len 0 (length (receipts_of self.now)))) }
     {
-        for k in 0..self.sides.len() {
-            if !self.sides[k].shown.kind.is_programme() {
+        for k in 0..self.receipts.len() {
+            if !self.receipts[k].contents.kind.is_programme() {
                 self.push_choices(pairs, k)?;
             }
         }
@@ -224,8 +240,8 @@ impl<'r, 'a> Held<'r, 'a> {
             ++ flat_map (folder.programme_pairs (receipts_of self.now))
             (range_with_len 0 (length (receipts_of self.now)))) }
     {
-        for k in 0..self.sides.len() {
-            if self.sides[k].shown.kind.is_programme() {
+        for k in 0..self.receipts.len() {
+            if self.receipts[k].contents.kind.is_programme() {
                 self.push_members(pairs, k)?;
             }
         }
@@ -245,24 +261,29 @@ impl<'r, 'a> Held<'r, 'a> {
     }
 
     // Those of the pairs in which the two receipts differ.
-    fn differing(
+    fn differing_pairs(
         &self,
         alloc: Global,
         pairs: &[(usize, usize)],
     ) -> Result<Vec<(usize, usize)>, AllocError>
         requires held { IsHeld self.now }
         requires pairs { pairs.now ≡ folder.pairs_of (receipts_of self.now) }
-        ensures { IfOk result (λ found. found.items
+        ensures { IfOk result (λ differing. differing.items
             ≡ folder.differing_pairs (receipts_of self.now)) }
     {
-        let mut found = Vec::new(alloc);
+        let mut differing = Vec::new(alloc);
         for k in 0..pairs.len() {
-            let (r, p) = pairs[k];
-            if first_difference(&self.sides[r], &self.sides[p]).is_some() {
-                found.push((r, p))?;
+            let (resident_file, programme_file) = pairs[k];
+            if first_difference(
+                &self.receipts[resident_file],
+                &self.receipts[programme_file],
+            )
+            .is_some()
+            {
+                differing.push((resident_file, programme_file))?;
             }
         }
-        Ok(found)
+        Ok(differing)
     }
 
     // Adds a sentence on each pair that differs.
@@ -273,8 +294,11 @@ impl<'r, 'a> Held<'r, 'a> {
             (flat_map (folder.words_at (receipts_of self.now)) pairs.now)) }
     {
         for k in 0..pairs.len() {
-            let (r, p) = pairs[k];
-            let (resident, programme) = (&self.sides[r], &self.sides[p]);
+            let (resident_file, programme_file) = pairs[k];
+            let (resident, programme) = (
+                &self.receipts[resident_file],
+                &self.receipts[programme_file],
+            );
             put_pair(
                 text,
                 first_difference(resident, programme),
@@ -285,83 +309,100 @@ impl<'r, 'a> Held<'r, 'a> {
         Ok(())
     }
 
-    // Whether the folder has a receipt of each member numbered below `count`.
-    fn is_whole(&self, count: usize) -> bool
+    // Whether the folder has a receipt of each member numbered below `member_count`.
+    fn is_whole(&self, member_count: usize) -> bool
         requires held { IsHeld self.now }
-        ensures { result ≡ folder.is_whole count (receipts_of self.now) }
+        ensures { result ≡ folder.is_whole member_count (receipts_of self.now) }
     {
-        (0..count).all(|n| is_noted(self.numbers.as_slice(), n))
+        (0..member_count).all(|number| is_noted(self.numbers.as_slice(), number))
     }
 
-    // Whether the folder has a receipt of each member numbered below `members`, and no pair differs.
-    fn is_stable(&self, members: usize, differing: &[(usize, usize)]) -> bool
+    // Whether the folder has a receipt of each member numbered below `member_count`, and no pair
+    // differs.
+    fn is_stable(&self, member_count: usize, differing_pairs: &[(usize, usize)]) -> bool
         requires held { IsHeld self.now }
-        requires differing { differing.now ≡ folder.differing_pairs (receipts_of self.now) }
-        ensures { result ≡ folder.is_stable members (receipts_of self.now) }
+        requires differing { differing_pairs.now ≡ folder.differing_pairs (receipts_of self.now) }
+        ensures { result ≡ folder.is_stable member_count (receipts_of self.now) }
     {
-        self.is_whole(members) && differing.len() == 0
+        self.is_whole(member_count) && differing_pairs.len() == 0
     }
 
-    /// Adds the text about the folder's receipts, where `members` is the number of all members. Returns
-    /// whether the placement is stable.
-    pub(crate) fn put_said(
+    /// Adds the text about the folder's receipts, where `member_count` is the number of all members.
+    /// Returns whether the placement is stable.
+    pub(crate) fn put_folder_text(
         &self,
         alloc: Global,
         text: &mut Vec<u8>,
-        members: usize,
+        member_count: usize,
     ) -> Result<bool, AllocError>
         requires held { IsHeld self.now }
         ensures text { OnOk result (Grows text.old text.new
-            (folder.folder_text members (receipts_of self.now))) }
+            (folder.folder_text member_count (receipts_of self.now))) }
         ensures stable { IfOk result (λ stable. stable
-            ≡ folder.is_stable members (receipts_of self.now)) }
+            ≡ folder.is_stable member_count (receipts_of self.now)) }
     {
         let pairs = self.pairs(alloc)?;
-        let differing = self.differing(alloc, pairs.as_slice())?;
-        self.put_differing(text, differing.as_slice())?;
-        let present = self.sides.as_slice().len();
-        let (compared, differ) = (pairs.as_slice().len(), differing.as_slice().len());
-        put_counts(text, present, members, compared, differ)?;
-        let stable = self.is_stable(members, differing.as_slice());
+        let differing_pairs = self.differing_pairs(alloc, pairs.as_slice())?;
+        self.put_differing(text, differing_pairs.as_slice())?;
+        let present_count = self.receipts.as_slice().len();
+        let (pair_count, differing_count) = (
+            pairs.as_slice().len(),
+            differing_pairs.as_slice().len(),
+        );
+        put_counts(
+            text,
+            present_count,
+            member_count,
+            pair_count,
+            differing_count,
+        )?;
+        let stable = self.is_stable(member_count, differing_pairs.as_slice());
         put_stable(text, stable)?;
         Ok(stable)
     }
 }
 
 // Adds two numbers, with words between them and after them.
-fn put_two(
+fn put_two_numbers(
     text: &mut Vec<u8>,
-    n: usize,
-    words: &[u8],
-    m: usize,
-    end: &[u8],
+    first_number: usize,
+    middle_words: &[u8],
+    second_number: usize,
+    end_words: &[u8],
 ) -> Result<(), AllocError>
-    ensures { OnOk result (Grows text.old text.new (folder.two_numbers n words.now m end.now)) }
+    ensures { OnOk result (Grows text.old text.new
+        (folder.two_numbers first_number middle_words.now second_number end_words.now)) }
 {
-    put_number(text, n)?;
-    put(text, words)?;
-    put_number(text, m)?;
-    put(text, end)
+    put_number(text, first_number)?;
+    put(text, middle_words)?;
+    put_number(text, second_number)?;
+    put(text, end_words)
 }
 
 // Adds how many of all members have a receipt in the folder, how many pairs were compared, and how many
 // pairs differ.
 fn put_counts(
     text: &mut Vec<u8>,
-    present: usize,
-    members: usize,
-    compared: usize,
-    differing: usize,
+    present_count: usize,
+    member_count: usize,
+    pair_count: usize,
+    differing_count: usize,
 ) -> Result<(), AllocError>
     ensures { OnOk result (Grows text.old text.new
-        (folder.counts_text present members compared differing)) }
+        (folder.counts_text present_count member_count pair_count differing_count)) }
 {
-    put_two(text, present, b" of ", members, b" members are there, and ")?;
-    put_two(
+    put_two_numbers(
         text,
-        compared,
+        present_count,
+        b" of ",
+        member_count,
+        b" members are there, and ",
+    )?;
+    put_two_numbers(
+        text,
+        pair_count,
         b" pairs were compared: ",
-        differing,
+        differing_count,
         b" differ.\n",
     )
 }

@@ -12,10 +12,10 @@ use records::{field, next_row, put_line, reader_over};
 use std::alloc::{AllocError, Global};
 
 // Whether a real name or an ID can have the character.
-fn is_shown(c: char) -> bool
-    ensures { result ≡ named_row.is_shown c }
+fn can_be_shown(character: char) -> bool
+    ensures { result ≡ named_row.is_shown character }
 {
-    let code = c as u32;
+    let code = character as u32;
     32 <= code
         && !(127 <= code && code <= 159)
         && code != 1564
@@ -25,10 +25,10 @@ fn is_shown(c: char) -> bool
 }
 
 // Whether a text between two commas can have the character.
-fn is_part(c: char) -> bool
-    ensures { result ≡ named_row.is_part c }
+fn fits_in_piece(character: char) -> bool
+    ensures { result ≡ named_row.is_part character }
 {
-    is_shown(c) && c != ','
+    can_be_shown(character) && character != ','
 }
 
 // Whether a text between two commas is UTF-8 and has only characters that it can have.
@@ -38,7 +38,7 @@ fn is_piece(piece: &[u8]) -> bool
     let Ok(text) = str::from_utf8(piece) else {
         return false;
     };
-    text.chars().all(|c| is_part(c))
+    text.chars().all(|character| fits_in_piece(character))
 }
 
 // Whether each of the texts between commas is UTF-8 and has only characters that it can have.
@@ -49,11 +49,11 @@ fn are_pieces(pieces: &[&[u8]]) -> bool
 }
 
 // The row of the real name as it is printed.
-fn name_text(alloc: Global, named: &[&[u8]]) -> Result<Vec<u8>, AllocError>
-    ensures { IfOk result (λ text. text.items ≡ named_row.name_text (fields_in named.now)) }
+fn name_text(alloc: Global, name_pieces: &[&[u8]]) -> Result<Vec<u8>, AllocError>
+    ensures { IfOk result (λ text. text.items ≡ named_row.name_text (fields_in name_pieces.now)) }
 {
     let mut text = Vec::new(alloc);
-    put_name(&mut text, named)?;
+    put_name(&mut text, name_pieces)?;
     Ok(text)
 }
 
@@ -72,44 +72,48 @@ fn first_fields(alloc: Global, bytes: &[u8]) -> Result<ByteRecord, AllocError>
 
 /// The fields of the row as `csv` reads them: `N`, the real name, and perhaps an ID.
 #[tactic(auto, unfolding(crate::specs::Named::real_fields))]
-pub(crate) fn real_fields(alloc: Global, named: &[&[u8]]) -> Result<ByteRecord, AllocError>
+pub(crate) fn real_fields(alloc: Global, name_pieces: &[&[u8]]) -> Result<ByteRecord, AllocError>
     ensures { IfOk result (λ row. fields_of row
-        ≡ named_row.real_fields (fields_in named.now)) }
+        ≡ named_row.real_fields (fields_in name_pieces.now)) }
 {
-    let text = name_text(alloc, named)?;
+    let text = name_text(alloc, name_pieces)?;
     first_fields(alloc, text.as_slice())
 }
 
 // Whether the row is printed exactly as `csv` prints these fields.
-fn is_printed(alloc: Global, named: &[&[u8]], fields: &ByteRecord) -> Result<bool, AllocError>
-    ensures { IfOk result (λ is. is ≡ named_row.is_printed
-        (fields_in named.now) (fields_of fields.now)) }
+fn is_printed(
+    alloc: Global,
+    name_pieces: &[&[u8]],
+    name_record: &ByteRecord,
+) -> Result<bool, AllocError>
+    ensures { IfOk result (λ printed. printed ≡ named_row.is_printed
+        (fields_in name_pieces.now) (fields_of name_record.now)) }
 {
-    let text = name_text(alloc, named)?;
-    let mut printed = Vec::new(alloc);
-    put_line(&mut printed, fields)?;
-    Ok(printed.as_slice() == text.as_slice())
+    let row_text = name_text(alloc, name_pieces)?;
+    let mut printed_row = Vec::new(alloc);
+    put_line(&mut printed_row, name_record)?;
+    Ok(printed_row.as_slice() == row_text.as_slice())
 }
 
 // Whether the fields after the `N` are a real name, or a real name and an ID, and none is empty.
-fn has_parts(fields: &ByteRecord) -> bool
-    ensures { result ≡ named_row.has_parts (fields_of fields.now) }
+fn has_parts(name_record: &ByteRecord) -> bool
+    ensures { result ≡ named_row.has_parts (fields_of name_record.now) }
 {
-    field(fields, 1).len() != 0
-        && (fields.len() == 2 || fields.len() == 3 && field(fields, 2).len() != 0)
+    field(name_record, 1).len() != 0
+        && (name_record.len() == 2 || name_record.len() == 3 && field(name_record, 2).len() != 0)
 }
 
 /// Whether the row is a right row of a real name.
 #[tactic(auto, unfolding(crate::specs::Named::is_real))]
-pub(crate) fn is_real(alloc: Global, named: &[&[u8]]) -> Result<bool, AllocError>
-    ensures { IfOk result (λ is. is ≡ named_row.is_real (fields_in named.now)) }
+pub(crate) fn is_real(alloc: Global, name_pieces: &[&[u8]]) -> Result<bool, AllocError>
+    ensures { IfOk result (λ real. real ≡ named_row.is_real (fields_in name_pieces.now)) }
 {
-    if !are_pieces(named) {
+    if !are_pieces(name_pieces) {
         return Ok(false);
     }
-    let fields = real_fields(alloc, named)?;
-    if !is_printed(alloc, named, &fields)? {
+    let name_record = real_fields(alloc, name_pieces)?;
+    if !is_printed(alloc, name_pieces, &name_record)? {
         return Ok(false);
     }
-    Ok(has_parts(&fields))
+    Ok(has_parts(&name_record))
 }

@@ -12,39 +12,40 @@ use std::alloc::{AllocError, Global};
 use std::hash::RandomState;
 
 // Whether the name stands on the list; true without a list.
-fn is_on(on: Option<&Texts>, name: &[u8]) -> bool
-    ensures { result ≡ faults.is_on (option_map (λ on. on.now) on.entry) name.now }
+fn is_listed(list: Option<&Texts>, name: &[u8]) -> bool
+    ensures { result ≡ faults.is_on (option_map (λ list. list.now) list.entry) name.now }
 {
-    match on {
-        Some(on) => on.find(name).is_some(),
+    match list {
+        Some(list) => list.find(name).is_some(),
         None => true,
     }
 }
 
 // What is wrong with a name: it is no name, it isn't on the list, or it is among the names seen
 // before.
-fn name_wrong(on: Option<&Texts>, seen: &Texts, name: &[u8]) -> Option<Wrong>
-    ensures { result ≡ faults.name_wrong (option_map (λ on. on.now) on.entry) seen.now name.now }
+fn name_defect(list: Option<&Texts>, seen_names: &Texts, name: &[u8]) -> Option<Wrong>
+    ensures { result
+        ≡ faults.name_wrong (option_map (λ list. list.now) list.entry) seen_names.now name.now }
 {
     if !is_name(name) {
         return Some(Wrong::Name);
     }
-    if !is_on(on, name) {
+    if !is_listed(list, name) {
         return Some(Wrong::NotListed);
     }
-    if seen.find(name).is_some() {
+    if seen_names.find(name).is_some() {
         return Some(Wrong::Twice);
     }
     None
 }
 
 /// Adds a name that is not among the names seen before.
-pub(crate) fn add(seen: &mut Texts, name: &[u8]) -> Result<(), AllocError>
+pub(crate) fn add(seen_names: &mut Texts, name: &[u8]) -> Result<(), AllocError>
     requires lawful { words.is_name name.now ≡ true }
-    requires fresh { is_some (number_in seen.old name.now) ≡ false }
-    ensures { OnOk result (seen.new ≡ seen.old ++ name.now ∷ []) }
+    requires fresh { is_some (number_in seen_names.old name.now) ≡ false }
+    ensures { OnOk result (seen_names.new ≡ seen_names.old ++ name.now ∷ []) }
 {
-    seen.number(name)?;
+    seen_names.number(name)?;
     Ok(())
 }
 
@@ -53,22 +54,22 @@ pub(crate) fn add(seen: &mut Texts, name: &[u8]) -> Result<(), AllocError>
 pub(crate) fn names_in(
     alloc: Global,
     keys: RandomState,
-    on: Option<&Texts>,
+    list: Option<&Texts>,
     names: &[&[u8]],
 ) -> Result<Result<Texts, (usize, Wrong)>, AllocError>
     ensures { IfOk result (λ answer. MatchResult answer
-        (λ seen. (seen ≡ fields_in names.now) × (faults.wrong_name
-        (option_map (λ on. on.now) on.entry) (fields_in names.now) ≡ None))
-        (λ found. (found.0 < length names.now) × (faults.wrong_name
-        (option_map (λ on. on.now) on.entry) (fields_in names.now) ≡ Some found))) }
+        (λ seen_names. (seen_names ≡ fields_in names.now) × (faults.wrong_name
+        (option_map (λ list. list.now) list.entry) (fields_in names.now) ≡ None))
+        (λ name_fault. (name_fault.0 < length names.now) × (faults.wrong_name
+        (option_map (λ list. list.now) list.entry) (fields_in names.now) ≡ Some name_fault))) }
 {
-    let mut seen = Texts::new(alloc, keys);
+    let mut seen_names = Texts::new(alloc, keys);
     for k in 0..names.len() {
         let name = field(names, k);
-        if let Some(wrong) = name_wrong(on, &seen, name) {
-            return Ok(Err((k, wrong)));
+        if let Some(defect) = name_defect(list, &seen_names, name) {
+            return Ok(Err((k, defect)));
         }
-        add(&mut seen, name)?;
+        add(&mut seen_names, name)?;
     }
-    Ok(Ok(seen))
+    Ok(Ok(seen_names))
 }

@@ -7,8 +7,8 @@ ghost use Rattle.receipt_check.specs.Shown.{content, fields_in};
 
 use crate::print::{lists_text, result_text};
 use crate::rows::field;
-use crate::shown::Shown;
-use crate::wrong::{Fault, Wrong, at};
+use crate::shown::ReceiptContents;
+use crate::wrong::{Fault, Wrong, row_fault};
 use docket_names::number_of;
 use hex::FromHex;
 use seal::{leaf_hash, opens};
@@ -21,8 +21,8 @@ pub(crate) fn plain_number(digits: &[u8]) -> Option<u32>
     ensures { result ≡ faults.plain_number digits.now }
 {
     let number = number_of(digits)?;
-    let mut room = itoa::Buffer::new();
-    if digits == room.format(number).as_bytes() {
+    let mut number_buffer = itoa::Buffer::new();
+    if digits == number_buffer.format(number).as_bytes() {
         return Some(number);
     }
     None
@@ -32,7 +32,7 @@ pub(crate) fn plain_number(digits: &[u8]) -> Option<u32>
 fn has_small_bytes(digits: &[u8]) -> bool
     ensures { result ≡ list_all faults.is_small digits.now }
 {
-    digits.iter().all(|c| *c <= b'9' || b'a' <= *c)
+    digits.iter().all(|byte| *byte <= b'9' || b'a' <= *byte)
 }
 
 /// The 32 bytes that 64 hexadecimal digits without capital letters write.
@@ -51,7 +51,7 @@ pub fn digest_of(digits: &[u8]) -> Option<[u8; 32]>
 
 // The digests that these fields write. None if one of the fields is no digest.
 fn digests_of(alloc: Global, fields: &[&[u8]]) -> Result<Option<Vec<[u8; 32]>>, AllocError>
-    ensures { IfOk result (λ found. option_map (λ (ds : Vec (List ℕ)). ds.items) found
+    ensures { IfOk result (λ digests. option_map (λ (ds : Vec (List ℕ)). ds.items) digests
         ≡ faults.digests_of (fields_in fields.now)) }
 {
     let mut digests = Vec::new(alloc);
@@ -67,18 +67,19 @@ fn digests_of(alloc: Global, fields: &[&[u8]]) -> Result<Option<Vec<[u8; 32]>>, 
 // Why these fields, a salt and a path, don't open this root from the leaf with this text; none if
 // they do.
 #[tactic(auto, unfolding(crate::specs::Faults::opening_wrong))]
-fn opening_wrong(
+fn opening_defect(
     alloc: Global,
     root: &[u8; 32],
-    count: u32,
-    index: u32,
-    fields: &[&[u8]],
+    member_count: u32,
+    member_index: u32,
+    opening: &[&[u8]],
     text: &[u8],
 ) -> Result<Option<Wrong>, AllocError>
-    ensures { IfOk result (λ wrong. wrong
-        ≡ faults.opening_wrong root.now count index (fields_in fields.now) text.now) }
+    ensures { IfOk result (λ defect. defect
+        ≡ faults.opening_wrong root.now member_count member_index
+        (fields_in opening.now) text.now) }
 {
-    let Some(digests) = digests_of(alloc, fields)? else {
+    let Some(digests) = digests_of(alloc, opening)? else {
         return Ok(Some(Wrong::OpeningRow));
     };
     let Some((salt, path)) = digests.as_slice().split_first() else {
@@ -86,8 +87,8 @@ fn opening_wrong(
     };
     if opens(
         root,
-        count as usize,
-        index as usize,
+        member_count as usize,
+        member_index as usize,
         &leaf_hash(salt, text),
         path,
     ) {
@@ -97,61 +98,70 @@ fn opening_wrong(
 }
 
 // The fault of the row at this place, if something is wrong with the row.
-fn fault_at(place: usize, wrong: Option<Wrong>) -> Option<Fault>
+fn fault_at(place: usize, defect: Option<Wrong>) -> Option<Fault>
     requires { place < 2 ^ 63 }
-    ensures { result ≡ faults.fault_at place wrong }
+    ensures { result ≡ faults.fault_at place defect }
 {
-    match wrong {
-        Some(wrong) => Some(at(place, wrong)),
+    match defect {
+        Some(defect) => Some(row_fault(place, defect)),
         None => None,
     }
 }
 
 // The fault of the opening of the result's root. None if no such root was published.
-fn second_fault(
+fn result_opening_fault(
     alloc: Global,
     root: Option<&[u8; 32]>,
-    count: u32,
-    index: u32,
-    shown: &Shown,
+    member_count: u32,
+    member_index: u32,
+    contents: &ReceiptContents,
 ) -> Result<Option<Fault>, AllocError>
     ensures { IfOk result (λ fault. fault ≡ faults.second_fault
-        (option_map (λ root. root.now) root.entry) count index (content shown.now)) }
+        (option_map (λ root. root.now) root.entry)
+        member_count member_index (content contents.now)) }
 {
     let Some(root) = root else {
         return Ok(None);
     };
-    let text = result_text(alloc, shown)?;
-    let wrong = opening_wrong(alloc, root, count, index, shown.second, text.as_slice())?;
-    Ok(fault_at(shown.end() + 1, wrong))
+    let text = result_text(alloc, contents)?;
+    let defect = opening_defect(
+        alloc,
+        root,
+        member_count,
+        member_index,
+        contents.result_opening,
+        text.as_slice(),
+    )?;
+    Ok(fault_at(contents.lists_end() + 1, defect))
 }
 
-// The first fault of the openings of the member with number `index` among `count` members.
-fn openings_at(
+// The first fault of the openings of the member with number `member_index` among `member_count`
+// members.
+fn member_openings_fault(
     alloc: Global,
     lists_root: &[u8; 32],
     result_root: Option<&[u8; 32]>,
-    count: u32,
-    index: u32,
-    shown: &Shown,
+    member_count: u32,
+    member_index: u32,
+    contents: &ReceiptContents,
 ) -> Result<Option<Fault>, AllocError>
     ensures { IfOk result (λ fault. fault ≡ faults.openings_at lists_root.now
-        (option_map (λ root. root.now) result_root.entry) (content shown.now)
-        (Some count) (Some index)) }
+        (option_map (λ root. root.now) result_root.entry) (content contents.now)
+        (Some member_count) (Some member_index)) }
 {
-    let text = lists_text(alloc, shown)?;
-    let wrong = opening_wrong(
+    let text = lists_text(alloc, contents)?;
+    let defect = opening_defect(
         alloc,
         lists_root,
-        count,
-        index,
-        shown.opening,
+        member_count,
+        member_index,
+        contents.lists_opening,
         text.as_slice(),
     )?;
-    if let Some(wrong) = wrong {
-        return Ok(Some(at(2, wrong)));
+    if let Some(defect) = defect {
+        return Ok(Some(row_fault(2, defect)));
     }
-    second_fault(alloc, result_root, count, index, shown)
+    result_opening_fault(alloc, result_root, member_count, member_index, contents)
 }
 
 /// The first fault of a receipt's openings.
@@ -160,16 +170,23 @@ pub(crate) fn openings_fault(
     alloc: Global,
     lists_root: &[u8; 32],
     result_root: Option<&[u8; 32]>,
-    shown: &Shown,
+    contents: &ReceiptContents,
 ) -> Result<Option<Fault>, AllocError>
     ensures { IfOk result (λ fault. fault ≡ faults.openings_fault lists_root.now
-        (option_map (λ root. root.now) result_root.entry) (content shown.now)) }
+        (option_map (λ root. root.now) result_root.entry) (content contents.now)) }
 {
-    let Some(count) = plain_number(shown.count) else {
-        return Ok(Some(at(1, Wrong::RootRow)));
+    let Some(member_count) = plain_number(contents.member_count) else {
+        return Ok(Some(row_fault(1, Wrong::RootRow)));
     };
-    let Some(index) = plain_number(shown.index) else {
-        return Ok(Some(at(2, Wrong::OpeningRow)));
+    let Some(member_index) = plain_number(contents.member_index) else {
+        return Ok(Some(row_fault(2, Wrong::OpeningRow)));
     };
-    openings_at(alloc, lists_root, result_root, count, index, shown)
+    member_openings_fault(
+        alloc,
+        lists_root,
+        result_root,
+        member_count,
+        member_index,
+        contents,
+    )
 }

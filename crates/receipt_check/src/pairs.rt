@@ -7,11 +7,11 @@ ghost use Rattle.receipt_check.specs.Held.{IsHeld, bytes_in, receipts_of, rows_o
 ghost use Rattle.receipt_check.specs.Pair as pair;
 ghost use Rattle.receipt_check.specs.Rows as form;
 
-use crate::compared::{compared, short_text};
-use crate::folder::Held;
+use crate::compared::{checked_receipt, short_text};
+use crate::folder::FolderReceipts;
 use crate::published::Published;
 use crate::rows::split_rows;
-use crate::wrong::{CompareFault, Wrong, at};
+use crate::wrong::{CompareFault, Wrong, row_fault};
 use std::alloc::{AllocError, Global};
 use std::hash::RandomState;
 use std::io::Write;
@@ -42,7 +42,7 @@ fn rows_in<'a>(alloc: Global, texts: &'a [Vec<u8>]) -> Result<Vec<Vec<Vec<&'a [u
 
 // The receipts of all files, or the first file at fault and its fault.
 #[tactic(auto, unfolding(crate::specs::Folder::folder_fault))]
-fn gather<'r, 'a>(
+fn gather_receipts<'r, 'a>(
     alloc: Global,
     keys: RandomState,
     lists: &Published,
@@ -50,32 +50,32 @@ fn gather<'r, 'a>(
     files: &[Vec<u8>],
     texts: &[Vec<u8>],
     rows: &'r [Vec<Vec<&'a [u8]>>],
-) -> Result<Held<'r, 'a>, CompareFault>
+) -> Result<FolderReceipts<'r, 'a>, CompareFault>
     requires texts { bytes_in texts.now ≡ map pair.short_text (bytes_in files.now) }
     requires rows { rows_of rows.now ≡ map form.split_rows (bytes_in texts.now) }
     ensures { MatchResult result
-        (λ held. (folder.folder_fault lists.now outcome.now (bytes_in files.now) ≡ None)
-        × (receipts_of held ≡ folder.contents_of (bytes_in files.now)) × IsHeld held)
+        (λ receipts. (folder.folder_fault lists.now outcome.now (bytes_in files.now) ≡ None)
+        × (receipts_of receipts ≡ folder.contents_of (bytes_in files.now)) × IsHeld receipts)
         (IsCompareFault (folder.folder_fault lists.now outcome.now (bytes_in files.now))) }
 {
-    let mut held = Held::new(alloc, keys);
+    let mut receipts = FolderReceipts::new(alloc, keys);
     for k in 0..files.len() {
         let (file, text, rows) = (files[k].as_slice(), texts[k].as_slice(), rows[k].as_slice());
-        let side = match compared(alloc, keys, lists, outcome, file, text, rows)? {
-            Ok(side) => side,
+        let receipt = match checked_receipt(alloc, keys, lists, outcome, file, text, rows)? {
+            Ok(receipt) => receipt,
             Err(fault) => return Err(CompareFault::Wrong(k, fault)),
         };
-        if held.has(&side) {
-            return Err(CompareFault::Wrong(k, at(2, Wrong::Again)));
+        if receipts.has(&receipt) {
+            return Err(CompareFault::Wrong(k, row_fault(2, Wrong::Again)));
         }
-        held.add(side)?;
+        receipts.add(receipt)?;
     }
-    Ok(held)
+    Ok(receipts)
 }
 
 // The text about the receipts of all files, and whether the placement is stable; or the first file at fault and its
 // fault.
-fn said_of(
+fn pairs_text(
     alloc: Global,
     keys: RandomState,
     lists: &Published,
@@ -91,7 +91,7 @@ fn said_of(
 {
     let texts = texts_of(alloc, files)?;
     let rows = rows_in(alloc, texts.as_slice())?;
-    let held = gather(
+    let receipts = gather_receipts(
         alloc,
         keys,
         lists,
@@ -101,7 +101,7 @@ fn said_of(
         rows.as_slice(),
     )?;
     let mut text = Vec::new(alloc);
-    let stable = held.put_said(alloc, &mut text, lists.members as usize)?;
+    let stable = receipts.put_folder_text(alloc, &mut text, lists.members as usize)?;
     Ok((text, stable))
 }
 
@@ -130,7 +130,7 @@ pub fn serve_pairs<W: Write, H: RandomSource>(
     let Ok(keys) = RandomState::new(rt) else {
         return Err(CompareFault::Memory);
     };
-    let (text, stable) = said_of(alloc, keys, lists, outcome, files)?;
+    let (text, stable) = pairs_text(alloc, keys, lists, outcome, files)?;
     match writer.write_all(text.as_slice()) {
         Ok(()) => Ok(stable),
         Err(_) => Err(CompareFault::Write),

@@ -12,18 +12,18 @@ use std::hash::RandomState;
 /// The members of one side whose receipts the folder has, each with the number of the receipt's
 /// file.
 #[derive(Drop)]
-pub(crate) struct Present {
+pub(crate) struct PresentMembers {
     names: Texts,
     files: Vec<usize>,
 }
 
-impl Present {
+impl PresentMembers {
     /// A side without members.
-    pub(crate) fn new(alloc: Global, keys: RandomState) -> Present
+    pub(crate) fn new(alloc: Global, keys: RandomState) -> PresentMembers
         ensures names { result.names ≡ [] }
         ensures files { result.files.items ≡ [] }
     {
-        Present {
+        PresentMembers {
             names: Texts::new(alloc, keys),
             files: Vec::new(alloc),
         }
@@ -54,7 +54,7 @@ impl Present {
             (number_in self.now.names name.now) }
     {
         match self.names.find(name) {
-            Some(n) => self.files.get(n).copied(),
+            Some(place) => self.files.get(place).copied(),
             None => None,
         }
     }

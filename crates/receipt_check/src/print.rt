@@ -9,7 +9,7 @@ ghost use Rattle.receipt_check.specs.Shown.{content, fields_in};
 
 use crate::kind::Kind;
 use crate::rows::{cell, field};
-use crate::shown::{Shown, has_real_name};
+use crate::shown::{ReceiptContents, has_real_name};
 use std::alloc::{AllocError, Global};
 
 /// Adds bytes.
@@ -23,12 +23,12 @@ pub(crate) fn put(text: &mut Vec<u8>, bytes: &[u8]) -> Result<(), AllocError>
 pub(crate) fn put_number(text: &mut Vec<u8>, number: usize) -> Result<(), AllocError>
     ensures { OnOk result (Grows text.old text.new (decimal number)) }
 {
-    let mut room = itoa::Buffer::new();
-    put(text, room.format(number).as_bytes())
+    let mut number_buffer = itoa::Buffer::new();
+    put(text, number_buffer.format(number).as_bytes())
 }
 
 // Adds fields after the first, each after a comma.
-fn put_more(text: &mut Vec<u8>, fields: &[&[u8]]) -> Result<(), AllocError>
+fn put_more_fields(text: &mut Vec<u8>, fields: &[&[u8]]) -> Result<(), AllocError>
     ensures { OnOk result (Grows text.old text.new (more_fields (fields_in fields.now))) }
 {
     for k in 0..fields.len() {
@@ -38,19 +38,19 @@ fn put_more(text: &mut Vec<u8>, fields: &[&[u8]]) -> Result<(), AllocError>
     Ok(())
 }
 
-// Adds a row of these fields: the first one, those in `next`, and those in `rest`.
+// Adds a row of these fields: the first one, those in `middle_fields`, and those in `last_fields`.
 fn put_row(
     text: &mut Vec<u8>,
-    first: &[u8],
-    next: &[&[u8]],
-    rest: &[&[u8]],
+    first_field: &[u8],
+    middle_fields: &[&[u8]],
+    last_fields: &[&[u8]],
 ) -> Result<(), AllocError>
     ensures { OnOk result (Grows text.old text.new
-        (line (first.now ∷ (fields_in next.now ++ fields_in rest.now)))) }
+        (line (first_field.now ∷ (fields_in middle_fields.now ++ fields_in last_fields.now)))) }
 {
-    put(text, first)?;
-    put_more(text, next)?;
-    put_more(text, rest)?;
+    put(text, first_field)?;
+    put_more_fields(text, middle_fields)?;
+    put_more_fields(text, last_fields)?;
     put(text, b"\n")
 }
 
@@ -63,7 +63,7 @@ fn put_withdrawal(text: &mut Vec<u8>, letter: &[u8], name: &[u8]) -> Result<(), 
 }
 
 // Adds the first row of a receipt of a member of the side with this letter.
-fn put_first(text: &mut Vec<u8>, letter: &[u8], name: &[u8]) -> Result<(), AllocError>
+fn put_header_row(text: &mut Vec<u8>, letter: &[u8], name: &[u8]) -> Result<(), AllocError>
     ensures { OnOk result (Grows text.old text.new
         (line (codes "receipt" ∷ codes "2" ∷ letter.now ∷ name.now ∷ []))) }
 {
@@ -71,176 +71,197 @@ fn put_first(text: &mut Vec<u8>, letter: &[u8], name: &[u8]) -> Result<(), Alloc
 }
 
 // Adds the `W` row, if the member is withdrawn.
-fn put_gone(text: &mut Vec<u8>, shown: &Shown) -> Result<(), AllocError>
+fn put_withdrawal_if(text: &mut Vec<u8>, contents: &ReceiptContents) -> Result<(), AllocError>
     ensures { OnOk result (Grows text.old text.new
-        (lines (receipt.gone_rows (content shown.now)))) }
+        (lines (receipt.gone_rows (content contents.now)))) }
 {
-    if shown.gone {
-        return put_withdrawal(text, shown.kind.letter(), shown.name);
+    if contents.withdrawn {
+        return put_withdrawal(text, contents.kind.letter(), contents.name);
     }
     Ok(())
 }
 
 /// Adds the `N` row, if there is a real name.
-pub(crate) fn put_name(text: &mut Vec<u8>, named: &[&[u8]]) -> Result<(), AllocError>
+pub(crate) fn put_name(text: &mut Vec<u8>, name_pieces: &[&[u8]]) -> Result<(), AllocError>
     ensures { OnOk result (Grows text.old text.new
-        (lines (receipt.name_rows (fields_in named.now)))) }
+        (lines (receipt.name_rows (fields_in name_pieces.now)))) }
 {
-    if has_real_name(named) {
-        return put_row(text, b"N", &[], named);
+    if has_real_name(name_pieces) {
+        return put_row(text, b"N", &[], name_pieces);
     }
     Ok(())
 }
 
 // Adds the rows after a member's list: the row of a withdrawal, and the row of a real name.
-fn put_last(text: &mut Vec<u8>, shown: &Shown) -> Result<(), AllocError>
+fn put_withdrawal_and_name(text: &mut Vec<u8>, contents: &ReceiptContents) -> Result<(), AllocError>
     ensures { OnOk result (Grows text.old text.new
-        (lines (receipt.last_rows (content shown.now)))) }
+        (lines (receipt.last_rows (content contents.now)))) }
 {
-    put_gone(text, shown)?;
-    put_name(text, shown.named)
+    put_withdrawal_if(text, contents)?;
+    put_name(text, contents.name_pieces)
 }
 
 // Adds the row of a programme's list, if it has one.
-fn put_list(text: &mut Vec<u8>, shown: &Shown) -> Result<(), AllocError>
+fn put_list(text: &mut Vec<u8>, contents: &ReceiptContents) -> Result<(), AllocError>
     ensures { OnOk result (Grows text.old text.new
-        (lines (receipt.list_rows (content shown.now)))) }
+        (lines (receipt.list_rows (content contents.now)))) }
 {
-    if shown.has_list {
-        return put_row(text, b"P", &[shown.name], shown.list);
+    if contents.has_list {
+        return put_row(text, b"P", &[contents.name], contents.list);
     }
     Ok(())
 }
 
 // Adds the rows that were sealed for a member before the match.
-fn put_lists(text: &mut Vec<u8>, shown: &Shown) -> Result<(), AllocError>
+fn put_lists(text: &mut Vec<u8>, contents: &ReceiptContents) -> Result<(), AllocError>
     ensures { OnOk result (Grows text.old text.new
-        (lines (receipt.lists_rows (content shown.now)))) }
+        (lines (receipt.lists_rows (content contents.now)))) }
 {
-    match shown.kind {
+    match contents.kind {
         Kind::Programme => {
-            put_row(text, b"Q", &[shown.name, shown.quota], &[])?;
-            put_list(text, shown)?;
+            put_row(text, b"Q", &[contents.name, contents.quota], &[])?;
+            put_list(text, contents)?;
         }
-        Kind::Resident => put_row(text, b"R", &[shown.name], shown.list)?,
+        Kind::Resident => put_row(text, b"R", &[contents.name], contents.list)?,
     }
-    put_last(text, shown)
+    put_withdrawal_and_name(text, contents)
 }
 
 // Adds the row that says how many places of a programme are filled.
-fn put_filled(text: &mut Vec<u8>, shown: &Shown) -> Result<(), AllocError>
+fn put_filled(text: &mut Vec<u8>, contents: &ReceiptContents) -> Result<(), AllocError>
     ensures { OnOk result
-        (Grows text.old text.new (line (receipt.filled_row (content shown.now)))) }
+        (Grows text.old text.new (line (receipt.filled_row (content contents.now)))) }
 {
-    let mut room = itoa::Buffer::new();
-    let filled = room.format(shown.after.len()).as_bytes();
-    put_row(text, b"F", &[shown.name, filled, shown.quota], &[])
+    let mut number_buffer = itoa::Buffer::new();
+    let filled_digits = number_buffer.format(contents.detail_rows.len()).as_bytes();
+    put_row(
+        text,
+        b"F",
+        &[contents.name, filled_digits, contents.quota],
+        &[],
+    )
 }
 
 // Adds the rows of a programme's residents.
-fn put_members(text: &mut Vec<u8>, shown: &Shown) -> Result<(), AllocError>
+fn put_members(text: &mut Vec<u8>, contents: &ReceiptContents) -> Result<(), AllocError>
     ensures { OnOk result (Grows text.old text.new (lines
-        (map (receipt.member_row shown.now.name.now) (receipt.members (content shown.now))))) }
+        (map (receipt.member_row contents.now.name.now)
+        (receipt.members (content contents.now))))) }
 {
-    for k in 0..shown.after.len() {
-        put_row(text, b"M", &[cell(shown.after, k, 1), shown.name], &[])?;
+    for k in 0..contents.detail_rows.len() {
+        put_row(
+            text,
+            b"M",
+            &[cell(contents.detail_rows, k, 1), contents.name],
+            &[],
+        )?;
     }
     Ok(())
 }
 
 // Adds the row that says where a resident is placed.
-fn put_placed(text: &mut Vec<u8>, shown: &Shown) -> Result<(), AllocError>
-    ensures { OnOk result (Grows text.old text.new (line (receipt.placed_row shown.now.name.now
-        (option_map (λ own. own.now) shown.now.own)))) }
+fn put_placement_row(text: &mut Vec<u8>, contents: &ReceiptContents) -> Result<(), AllocError>
+    ensures { OnOk result (Grows text.old text.new (line (receipt.placed_row contents.now.name.now
+        (option_map (λ own_programme. own_programme.now) contents.now.own_programme)))) }
 {
-    match shown.own {
-        Some(own) => put_row(text, b"M", &[shown.name, own], &[]),
-        None => put_row(text, b"U", &[shown.name], &[]),
+    match contents.own_programme {
+        Some(own_programme) => put_row(text, b"M", &[contents.name, own_programme], &[]),
+        None => put_row(text, b"U", &[contents.name], &[]),
     }
 }
 
 // Adds the row of a resident's choice, which is counted from 0.
-fn put_reason(text: &mut Vec<u8>, shown: &Shown, k: usize) -> Result<(), AllocError>
-    requires { k < 2 ^ 63 }
+fn put_reason(
+    text: &mut Vec<u8>,
+    contents: &ReceiptContents,
+    choice: usize,
+) -> Result<(), AllocError>
+    requires { choice < 2 ^ 63 }
     ensures { OnOk result (Grows text.old text.new
-        (line (receipt.reason_row (content shown.now) k))) }
+        (line (receipt.reason_row (content contents.now) choice))) }
 {
-    let mut room = itoa::Buffer::new();
-    let choice = room.format(k + 1).as_bytes();
+    let mut number_buffer = itoa::Buffer::new();
+    let choice_digits = number_buffer.format(choice + 1).as_bytes();
     put_row(
         text,
-        shown.name,
-        &[field(shown.list, k), choice],
-        shown.answer(k),
+        contents.name,
+        &[field(contents.list, choice), choice_digits],
+        contents.answer(choice),
     )
 }
 
 // Adds the rows of a resident's choices.
-fn put_reasons(text: &mut Vec<u8>, shown: &Shown) -> Result<(), AllocError>
+fn put_reasons(text: &mut Vec<u8>, contents: &ReceiptContents) -> Result<(), AllocError>
     ensures { OnOk result (Grows text.old text.new (lines
-        (map (receipt.reason_row (content shown.now))
-        (range_with_len 0 (length shown.now.list.now))))) }
+        (map (receipt.reason_row (content contents.now))
+        (range_with_len 0 (length contents.now.list.now))))) }
 {
-    for k in 0..shown.list.len() {
-        put_reason(text, shown, k)?;
+    for k in 0..contents.list.len() {
+        put_reason(text, contents, k)?;
     }
     Ok(())
 }
 
 // Adds the rows that were sealed for a member after the match.
-fn put_result(text: &mut Vec<u8>, shown: &Shown) -> Result<(), AllocError>
+fn put_result(text: &mut Vec<u8>, contents: &ReceiptContents) -> Result<(), AllocError>
     ensures { OnOk result
-        (Grows text.old text.new (lines (receipt.result_rows (content shown.now)))) }
+        (Grows text.old text.new (lines (receipt.result_rows (content contents.now)))) }
 {
-    match shown.kind {
+    match contents.kind {
         Kind::Programme => {
-            put_filled(text, shown)?;
-            put_members(text, shown)
+            put_filled(text, contents)?;
+            put_members(text, contents)
         }
         Kind::Resident => {
-            put_placed(text, shown)?;
-            put_reasons(text, shown)
+            put_placement_row(text, contents)?;
+            put_reasons(text, contents)
         }
     }
 }
 
 /// The text that was sealed for a member before the match.
 #[tactic(auto, unfolding(crate::specs::Receipt::lists_text))]
-pub(crate) fn lists_text(alloc: Global, shown: &Shown) -> Result<Vec<u8>, AllocError>
-    ensures { IfOk result (λ text. text.items ≡ receipt.lists_text (content shown.now)) }
+pub(crate) fn lists_text(alloc: Global, contents: &ReceiptContents) -> Result<Vec<u8>, AllocError>
+    ensures { IfOk result (λ text. text.items ≡ receipt.lists_text (content contents.now)) }
 {
     let mut text = Vec::new(alloc);
-    put_lists(&mut text, shown)?;
+    put_lists(&mut text, contents)?;
     Ok(text)
 }
 
 /// The text that was sealed for a member after the match.
 #[tactic(auto, unfolding(crate::specs::Receipt::result_text))]
-pub(crate) fn result_text(alloc: Global, shown: &Shown) -> Result<Vec<u8>, AllocError>
-    ensures { IfOk result (λ text. text.items ≡ receipt.result_text (content shown.now)) }
+pub(crate) fn result_text(alloc: Global, contents: &ReceiptContents) -> Result<Vec<u8>, AllocError>
+    ensures { IfOk result (λ text. text.items ≡ receipt.result_text (content contents.now)) }
 {
     let mut text = Vec::new(alloc);
-    put_result(&mut text, shown)?;
+    put_result(&mut text, contents)?;
     Ok(text)
 }
 
 /// Adds the two rows of a tree that stand before the text of a leaf: the root's row and the
 /// opening's row.
-pub(crate) fn put_part(
+pub(crate) fn put_tree_part(
     alloc: Global,
     text: &mut Vec<u8>,
-    word: &[u8],
+    tree_word: &[u8],
     root: &[u8; 32],
-    count: &[u8],
-    index: &[u8],
+    member_count: &[u8],
+    member_index: &[u8],
     opening: &[&[u8]],
 ) -> Result<(), AllocError>
     ensures { OnOk result (Grows text.old text.new (lines
-        (receipt.part_rows word.now root.now count.now index.now (fields_in opening.now)))) }
+        (receipt.part_rows tree_word.now root.now member_count.now member_index.now
+        (fields_in opening.now)))) }
 {
-    let digits = hex::encode(alloc, *root)?;
-    put_row(text, word, &[count, digits.as_bytes()], &[])?;
-    put_row(text, b"opens", &[word, index], opening)
+    let root_digits = hex::encode(alloc, *root)?;
+    put_row(
+        text,
+        tree_word,
+        &[member_count, root_digits.as_bytes()],
+        &[],
+    )?;
+    put_row(text, b"opens", &[tree_word, member_index], opening)
 }
 
 // Adds the part of a receipt about the result, if a result's root was published.
@@ -248,25 +269,25 @@ fn put_result_part(
     alloc: Global,
     text: &mut Vec<u8>,
     root: Option<&[u8; 32]>,
-    shown: &Shown,
+    contents: &ReceiptContents,
 ) -> Result<(), AllocError>
     ensures { OnOk result (Grows text.old text.new
-        (receipt.result_part (option_map (λ root. root.now) root.entry) (content shown.now))) }
+        (receipt.result_part (option_map (λ root. root.now) root.entry) (content contents.now))) }
 {
     let Some(root) = root else {
         return Ok(());
     };
-    put_part(
+    put_tree_part(
         alloc,
         text,
         b"result",
         root,
-        shown.count,
-        shown.index,
-        shown.second,
+        contents.member_count,
+        contents.member_index,
+        contents.result_opening,
     )?;
-    let rows = result_text(alloc, shown)?;
-    put(text, rows.as_slice())
+    let result_rows = result_text(alloc, contents)?;
+    put(text, result_rows.as_slice())
 }
 
 /// The text of a receipt with this content under these published roots.
@@ -275,24 +296,24 @@ pub(crate) fn receipt_text(
     alloc: Global,
     lists_root: &[u8; 32],
     result_root: Option<&[u8; 32]>,
-    shown: &Shown,
+    contents: &ReceiptContents,
 ) -> Result<Vec<u8>, AllocError>
     ensures { IfOk result (λ text. text.items ≡ receipt.receipt_text lists_root.now
-        (option_map (λ root. root.now) result_root.entry) (content shown.now)) }
+        (option_map (λ root. root.now) result_root.entry) (content contents.now)) }
 {
     let mut text = Vec::new(alloc);
-    put_first(&mut text, shown.kind.letter(), shown.name)?;
-    put_part(
+    put_header_row(&mut text, contents.kind.letter(), contents.name)?;
+    put_tree_part(
         alloc,
         &mut text,
         b"lists",
         lists_root,
-        shown.count,
-        shown.index,
-        shown.opening,
+        contents.member_count,
+        contents.member_index,
+        contents.lists_opening,
     )?;
-    let rows = lists_text(alloc, shown)?;
-    put(&mut text, rows.as_slice())?;
-    put_result_part(alloc, &mut text, result_root, shown)?;
+    let lists_rows = lists_text(alloc, contents)?;
+    put(&mut text, lists_rows.as_slice())?;
+    put_result_part(alloc, &mut text, result_root, contents)?;
     Ok(text)
 }

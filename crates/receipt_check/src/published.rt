@@ -17,7 +17,7 @@ pub struct Published {
 fn comma_in(text: &[u8]) -> Option<usize>
     ensures { result ≡ position (nat_eq 44) text.now }
 {
-    text.iter().position(|c| 44 == *c)
+    text.iter().position(|byte| 44 == *byte)
 }
 
 /// The number of members and the root that a text writes: a number, a comma and 64 small hexadecimal digits.
@@ -25,8 +25,8 @@ fn comma_in(text: &[u8]) -> Option<usize>
 pub fn published_of(text: &[u8]) -> Option<Published>
     ensures { option_map row_of result ≡ published_in text.now }
 {
-    let comma = comma_in(text)?;
-    let members = plain_number(&text[..comma])?;
-    let root = digest_of(&text[comma + 1..])?;
+    let comma_place = comma_in(text)?;
+    let members = plain_number(&text[..comma_place])?;
+    let root = digest_of(&text[comma_place + 1..])?;
     Some(Published { members, root })
 }

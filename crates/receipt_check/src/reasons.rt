@@ -5,123 +5,142 @@ ghost use Rattle.receipt_check.specs.Shown.{content, fields_in};
 
 use crate::opening::plain_number;
 use crate::rows::{field, is};
-use crate::shown::Shown;
+use crate::shown::ReceiptContents;
 use crate::wrong::Wrong;
 
 // Where a choice stands: before, at or after the resident's own programme. Without an own programme each
 // choice stands before.
 #[derive(Clone, Copy, Debug, PartialEq, Eq)]
-enum Stand {
-    Before,
-    At,
-    After,
+enum ChoicePlace {
+    BeforeOwn,
+    Own,
+    AfterOwn,
 }
 
-// Where choice `k` stands, if `own` is the choice that is the resident's own programme.
-fn stand_of(own: Option<usize>, k: usize) -> Stand
-    ensures { result ≡ faults.stand_of own k }
+// Where a choice stands, if `own_choice` is the choice that is the resident's own programme.
+fn choice_place_of(own_choice: Option<usize>, choice: usize) -> ChoicePlace
+    ensures { result ≡ faults.stand_of own_choice choice }
 {
-    match own {
-        None => Stand::Before,
-        Some(own) => {
-            if k < own {
-                Stand::Before
-            } else if k == own {
-                Stand::At
+    match own_choice {
+        None => ChoicePlace::BeforeOwn,
+        Some(own_choice) => {
+            if choice < own_choice {
+                ChoicePlace::BeforeOwn
+            } else if choice == own_choice {
+                ChoicePlace::Own
             } else {
-                Stand::After
+                ChoicePlace::AfterOwn
             }
         }
     }
 }
 
 // Whether the answer has this word, and no number in its other three fields.
-fn is_bare(fields: &[&[u8]], word: &[u8]) -> bool
-    ensures { result ≡ faults.is_bare word.now (fields_in fields.now) }
+fn is_bare_answer(answer: &[&[u8]], word: &[u8]) -> bool
+    ensures { result ≡ faults.is_bare word.now (fields_in answer.now) }
 {
-    fields.len() == 4
-        && field(fields, 0) == word
-        && field(fields, 1).len() == 0
-        && field(fields, 2).len() == 0
-        && field(fields, 3).len() == 0
+    answer.len() == 4
+        && field(answer, 0) == word
+        && field(answer, 1).len() == 0
+        && field(answer, 2).len() == 0
+        && field(answer, 3).len() == 0
 }
 
 // Whether the numbers of an answer `full` are possible: the places went to residents before this one, or
 // the programme has no places.
-fn is_before(rank: Option<u32>, digits: &[u8], last: Option<u32>, quota: Option<u32>) -> bool
-    ensures { result ≡ faults.is_before rank digits.now last quota }
+fn are_full_numbers(
+    rank: Option<u32>,
+    last_digits: &[u8],
+    last_rank: Option<u32>,
+    quota: Option<u32>,
+) -> bool
+    ensures { result ≡ faults.is_before rank last_digits.now last_rank quota }
 {
-    match (rank, last, quota) {
-        (Some(rank), Some(last), Some(quota)) => 1 <= quota && quota <= last && last < rank,
-        (Some(rank), None, Some(quota)) => digits.len() == 0 && quota == 0 && 1 <= rank,
+    match (rank, last_rank, quota) {
+        (Some(rank), Some(last_rank), Some(quota)) => 1 <= quota
+            && quota <= last_rank
+            && last_rank < rank,
+        (Some(rank), None, Some(quota)) => last_digits.len() == 0 && quota == 0 && 1 <= rank,
         _ => false,
     }
 }
 
 // Whether the answer is `full`, with numbers that are possible.
-fn is_full(fields: &[&[u8]]) -> bool
-    ensures { result ≡ faults.is_full (fields_in fields.now) }
+fn is_full_answer(answer: &[&[u8]]) -> bool
+    ensures { result ≡ faults.is_full (fields_in answer.now) }
 {
-    if fields.len() != 4 || !is(field(fields, 0), b"full") {
+    if answer.len() != 4 || !is(field(answer, 0), b"full") {
         return false;
     }
-    let rank = plain_number(field(fields, 1));
-    let last = plain_number(field(fields, 2));
-    let quota = plain_number(field(fields, 3));
-    is_before(rank, field(fields, 2), last, quota)
+    let rank = plain_number(field(answer, 1));
+    let last_rank = plain_number(field(answer, 2));
+    let quota = plain_number(field(answer, 3));
+    are_full_numbers(rank, field(answer, 2), last_rank, quota)
 }
 
 // Whether a programme before the resident's own can have this answer.
-fn is_passed(fields: &[&[u8]]) -> bool
-    ensures { result ≡ faults.is_passed (fields_in fields.now) }
+fn can_be_before_own(answer: &[&[u8]]) -> bool
+    ensures { result ≡ faults.is_passed (fields_in answer.now) }
 {
-    is_bare(fields, b"withdrawn") || is_bare(fields, b"unranked") || is_full(fields)
+    is_bare_answer(answer, b"withdrawn")
+        || is_bare_answer(answer, b"unranked")
+        || is_full_answer(answer)
 }
 
 // Whether a programme after the resident's own can have this answer.
-fn is_later(fields: &[&[u8]]) -> bool
-    ensures { result ≡ faults.is_later (fields_in fields.now) }
+fn can_be_after_own(answer: &[&[u8]]) -> bool
+    ensures { result ≡ faults.is_later (fields_in answer.now) }
 {
-    is_bare(fields, b"better") || is_bare(fields, b"unranked") || is_bare(fields, b"withdrawn")
+    is_bare_answer(answer, b"better")
+        || is_bare_answer(answer, b"unranked")
+        || is_bare_answer(answer, b"withdrawn")
 }
 
-// Whether a choice that stands so can have this answer; `gone` says whether the resident is
+// Whether a choice that stands so can have this answer; `withdrawn` says whether the resident is
 // withdrawn.
-fn can_stand(gone: bool, stand: Stand, fields: &[&[u8]]) -> bool
-    ensures { result ≡ faults.can_stand gone stand (fields_in fields.now) }
+fn can_have_answer(withdrawn: bool, place: ChoicePlace, answer: &[&[u8]]) -> bool
+    ensures { result ≡ faults.can_stand withdrawn place (fields_in answer.now) }
 {
-    if gone {
-        return is_bare(fields, b"withdrawn");
+    if withdrawn {
+        return is_bare_answer(answer, b"withdrawn");
     }
-    match stand {
-        Stand::Before => is_passed(fields),
-        Stand::At => is_bare(fields, b"matched"),
-        Stand::After => is_later(fields),
+    match place {
+        ChoicePlace::BeforeOwn => can_be_before_own(answer),
+        ChoicePlace::Own => is_bare_answer(answer, b"matched"),
+        ChoicePlace::AfterOwn => can_be_after_own(answer),
     }
 }
 
 // What is wrong with an answer, if the choice can't have it.
-fn reason_wrong(gone: bool, stand: Stand, fields: &[&[u8]]) -> Option<Wrong>
-    ensures { result ≡ faults.reason_wrong gone stand (fields_in fields.now) }
+fn answer_defect(withdrawn: bool, place: ChoicePlace, answer: &[&[u8]]) -> Option<Wrong>
+    ensures { result ≡ faults.reason_wrong withdrawn place (fields_in answer.now) }
 {
-    if can_stand(gone, stand, fields) {
+    if can_have_answer(withdrawn, place, answer) {
         return None;
     }
-    if is(field(fields, 0), b"full") {
+    if is(field(answer, 0), b"full") {
         return Some(Wrong::Full);
     }
     Some(Wrong::Reason)
 }
 
-/// The first choice of a resident whose answer is wrong, by its number from 0, and what is wrong. `own` is
+/// The first choice of a resident whose answer is wrong, by its number from 0, and what is wrong. `own_choice` is
 /// the choice that is the resident's own programme.
-pub(crate) fn wrong_reason(shown: &Shown, own: Option<usize>) -> Option<(usize, Wrong)>
-    ensures found { result ≡ faults.wrong_reason (content shown.now) own }
-    ensures within { IfSome result (λ found. found.0 < length shown.now.list.now) }
+pub(crate) fn wrong_reason(
+    contents: &ReceiptContents,
+    own_choice: Option<usize>,
+) -> Option<(usize, Wrong)>
+    ensures found { result ≡ faults.wrong_reason (content contents.now) own_choice }
+    ensures within { IfSome result (λ choice_defect.
+        choice_defect.0 < length contents.now.list.now) }
 {
-    for k in 0..shown.list.len() {
-        if let Some(wrong) = reason_wrong(shown.gone, stand_of(own, k), shown.answer(k)) {
-            return Some((k, wrong));
+    for k in 0..contents.list.len() {
+        if let Some(defect) = answer_defect(
+            contents.withdrawn,
+            choice_place_of(own_choice, k),
+            contents.answer(k),
+        ) {
+            return Some((k, defect));
         }
     }
     None

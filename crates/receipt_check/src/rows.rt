@@ -11,7 +11,7 @@ fn without_mark(bytes: &[u8]) -> &[u8]
     ensures { result.now ≡ form.without_mark bytes.now }
 {
     match bytes.strip_prefix(&[239u8, 187, 191][..]) {
-        Some(rest) => rest,
+        Some(unmarked) => unmarked,
         None => bytes,
     }
 }
@@ -35,7 +35,7 @@ fn is_return(bytes: &[u8], i: usize) -> bool
 }
 
 // Keeps the byte at this place, unless it is a carriage return that stands before a line feed.
-fn keep(text: &mut Vec<u8>, bytes: &[u8], i: usize) -> Result<(), AllocError>
+fn push_unless_return(text: &mut Vec<u8>, bytes: &[u8], i: usize) -> Result<(), AllocError>
     requires { i < 2 ^ 63 }
     ensures { OnOk result (Grows text.old text.new
         (form.kept (form.byte_at bytes.now i) (drop (i + 1) bytes.now))) }
@@ -53,7 +53,7 @@ fn without_returns(alloc: Global, bytes: &[u8]) -> Result<Vec<u8>, AllocError>
 {
     let mut text = Vec::new(alloc);
     for i in 0..bytes.len() {
-        keep(&mut text, bytes, i)?;
+        push_unless_return(&mut text, bytes, i)?;
     }
     Ok(text)
 }
@@ -66,11 +66,12 @@ pub(crate) fn plain_text(alloc: Global, bytes: &[u8]) -> Result<Vec<u8>, AllocEr
     without_returns(alloc, without_mark(bytes))
 }
 
-// The pieces of a text between the bytes that are equal to `mark`.
-fn pieces<'a>(alloc: Global, text: &'a [u8], mark: u8) -> Result<Vec<&'a [u8]>, AllocError>
-    ensures { IfOk result (λ found. fields_in found.items ≡ form.pieces mark text.now) }
+// The pieces of a text between the bytes that are equal to `separator`.
+fn pieces<'a>(alloc: Global, text: &'a [u8], separator: u8) -> Result<Vec<&'a [u8]>, AllocError>
+    ensures { IfOk result (λ text_pieces.
+        fields_in text_pieces.items ≡ form.pieces separator text.now) }
 {
-    text.split(|b| *b == mark).collect(alloc)
+    text.split(|byte| *byte == separator).collect(alloc)
 }
 
 /// The rows of a text.
@@ -78,39 +79,39 @@ pub(crate) fn split_rows<'a>(
     alloc: Global,
     text: &'a [u8],
 ) -> Result<Vec<Vec<&'a [u8]>>, AllocError>
-    ensures { IfOk result (λ found. rows_in found.items ≡ form.split_rows text.now) }
+    ensures { IfOk result (λ rows. rows_in rows.items ≡ form.split_rows text.now) }
 {
     let lines = pieces(alloc, text, b'\n')?;
-    let mut found = Vec::new(alloc);
+    let mut rows = Vec::new(alloc);
     for k in 0..lines.len().saturating_sub(1) {
-        found.push(pieces(alloc, field(lines.as_slice(), k), b',')?)?;
+        rows.push(pieces(alloc, field(lines.as_slice(), k), b',')?)?;
     }
-    Ok(found)
+    Ok(rows)
 }
 
-// The fields from field `from` on.
-fn tail<'r, 'a>(fields: &'r [&'a [u8]], from: usize) -> &'r [&'a [u8]]
-    ensures { result.now ≡ drop from fields.now }
+// The fields from field `start` on.
+fn tail<'r, 'a>(fields: &'r [&'a [u8]], start: usize) -> &'r [&'a [u8]]
+    ensures { result.now ≡ drop start fields.now }
 {
-    if from < fields.len() {
-        &fields[from..]
+    if start < fields.len() {
+        &fields[start..]
     } else {
         &fields[fields.len()..]
     }
 }
 
-/// The fields of row `k`, from field `from` on.
+/// The fields of row `row_number`, from field `start` on.
 pub(crate) fn fields_from<'r, 'a>(
     rows: &'r [Vec<&'a [u8]>],
-    k: usize,
-    from: usize,
+    row_number: usize,
+    start: usize,
 ) -> &'r [&'a [u8]]
-    ensures { fields_in result.now ≡ drop from (form.row_at (rows_in rows.now) k) }
+    ensures { fields_in result.now ≡ drop start (form.row_at (rows_in rows.now) row_number) }
 {
-    if k >= rows.len() {
+    if row_number >= rows.len() {
         return &[];
     }
-    tail(rows[k].as_slice(), from)
+    tail(rows[row_number].as_slice(), start)
 }
 
 /// Field `i` of these fields, or an empty field if it is missing.
@@ -123,11 +124,11 @@ pub(crate) fn field<'a>(fields: &[&'a [u8]], i: usize) -> &'a [u8]
     }
 }
 
-/// Field `i` of row `k`, or an empty field if it is missing.
-pub(crate) fn cell<'a>(rows: &[Vec<&'a [u8]>], k: usize, i: usize) -> &'a [u8]
-    ensures { result.now ≡ form.cell (rows_in rows.now) k i }
+/// Field `column` of row `row_number`, or an empty field if it is missing.
+pub(crate) fn cell<'a>(rows: &[Vec<&'a [u8]>], row_number: usize, column: usize) -> &'a [u8]
+    ensures { result.now ≡ form.cell (rows_in rows.now) row_number column }
 {
-    field(fields_from(rows, k, 0), i)
+    field(fields_from(rows, row_number, 0), column)
 }
 
 /// Whether the bytes are this text.

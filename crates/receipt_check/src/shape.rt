@@ -5,40 +5,40 @@ ghost use Rattle.receipt_check.specs.Shown.{content, fields_in, rows_in};
 
 use crate::print::receipt_text;
 use crate::rows::{cell, field, fields_from, is};
-use crate::shown::Shown;
-use crate::wrong::{Fault, Wrong, at};
+use crate::shown::ReceiptContents;
+use crate::wrong::{Fault, Wrong, row_fault};
 use std::alloc::{AllocError, Global};
 
 // 1 if the byte is a line feed, else 0.
-fn feeds(byte: u8) -> usize
+fn line_feeds(byte: u8) -> usize
     ensures { result ≡ shape.feeds byte }
 {
     if byte == b'\n' { 1 } else { 0 }
 }
 
 // The first row, counted from 0, in which two texts differ, if they do.
-fn first_unlike(text: &[u8], other: &[u8]) -> Option<usize>
-    ensures row { result ≡ shape.first_unlike text.now other.now }
-    ensures within { IfSome result (λ k. k < 2 ^ 63) }
+fn first_unlike(text: &[u8], other_text: &[u8]) -> Option<usize>
+    ensures row { result ≡ shape.first_unlike text.now other_text.now }
+    ensures within { IfSome result (λ row_number. row_number < 2 ^ 63) }
 {
     let mut row = 0;
     for i in 0..text.len() {
-        if i >= other.len() {
+        if i >= other_text.len() {
             return Some(row);
         }
-        if text[i] != other[i] {
+        if text[i] != other_text[i] {
             return Some(row);
         }
-        row += feeds(text[i]);
+        row += line_feeds(text[i]);
     }
-    if other.len() > text.len() {
+    if other_text.len() > text.len() {
         return Some(row);
     }
     None
 }
 
 // What is wrong with the first row.
-fn header_wrong(rows: &[Vec<&[u8]>]) -> Wrong
+fn header_defect(rows: &[Vec<&[u8]>]) -> Wrong
     ensures { result ≡ shape.header_wrong (rows_in rows.now) }
 {
     if is(cell(rows, 0, 0), b"receipt") && is(cell(rows, 0, 1), b"1") {
@@ -49,48 +49,53 @@ fn header_wrong(rows: &[Vec<&[u8]>]) -> Wrong
 }
 
 // What is wrong with the row of a root.
-fn root_wrong(
+fn root_defect(
     alloc: Global,
     root: &[u8; 32],
-    count: &[u8],
-    row: &[&[u8]],
+    member_count: &[u8],
+    fields: &[&[u8]],
 ) -> Result<Wrong, AllocError>
-    ensures { IfOk result (λ wrong. wrong
-        ≡ shape.root_wrong root.now count.now (fields_in row.now)) }
+    ensures { IfOk result (λ defect. defect
+        ≡ shape.root_wrong root.now member_count.now (fields_in fields.now)) }
 {
-    if field(row, 2).len() != 64 {
+    if field(fields, 2).len() != 64 {
         return Ok(Wrong::RootRow);
     }
-    let digits = hex::encode(alloc, *root)?;
-    if field(row, 2) != digits.as_bytes() {
+    let root_digits = hex::encode(alloc, *root)?;
+    if field(fields, 2) != root_digits.as_bytes() {
         return Ok(Wrong::Root);
     }
-    if field(row, 1) == count {
+    if field(fields, 1) == member_count {
         return Ok(Wrong::RootRow);
     }
     Ok(Wrong::Count)
 }
 
 // What is wrong with a row of the result.
-fn result_wrong(
+fn result_defect(
     alloc: Global,
     root: &[u8; 32],
-    shown: &Shown,
+    contents: &ReceiptContents,
     rows: &[Vec<&[u8]>],
-    k: usize,
+    row_number: usize,
 ) -> Result<Wrong, AllocError>
-    ensures { IfOk result (λ wrong. wrong
-        ≡ shape.result_wrong root.now (content shown.now) (rows_in rows.now) k) }
+    ensures { IfOk result (λ defect. defect
+        ≡ shape.result_wrong root.now (content contents.now) (rows_in rows.now) row_number) }
 {
-    let start = shown.end();
-    if k == start {
-        if is(cell(rows, k, 0), b"result") {
-            return root_wrong(alloc, root, shown.count, fields_from(rows, k, 0));
+    let result_start = contents.lists_end();
+    if row_number == result_start {
+        if is(cell(rows, row_number, 0), b"result") {
+            return root_defect(
+                alloc,
+                root,
+                contents.member_count,
+                fields_from(rows, row_number, 0),
+            );
         }
         return Ok(Wrong::List);
     }
-    if k == start + 1 {
-        if cell(rows, k, 2) == shown.index {
+    if row_number == result_start + 1 {
+        if cell(rows, row_number, 2) == contents.member_index {
             return Ok(Wrong::OpeningRow);
         }
         return Ok(Wrong::Place);
@@ -99,20 +104,21 @@ fn result_wrong(
 }
 
 // What is wrong with a row after the rows of the lists.
-fn later_wrong(
+fn later_row_defect(
     alloc: Global,
     root: Option<&[u8; 32]>,
-    shown: &Shown,
+    contents: &ReceiptContents,
     rows: &[Vec<&[u8]>],
-    k: usize,
+    row_number: usize,
 ) -> Result<Wrong, AllocError>
-    ensures { IfOk result (λ wrong. wrong ≡ shape.later_wrong
-        (option_map (λ root. root.now) root.entry) (content shown.now) (rows_in rows.now) k) }
+    ensures { IfOk result (λ defect. defect ≡ shape.later_wrong
+        (option_map (λ root. root.now) root.entry)
+        (content contents.now) (rows_in rows.now) row_number) }
 {
     match root {
-        Some(root) => result_wrong(alloc, root, shown, rows, k),
+        Some(root) => result_defect(alloc, root, contents, rows, row_number),
         None => {
-            if is(cell(rows, k, 0), b"result") {
+            if is(cell(rows, row_number, 0), b"result") {
                 return Ok(Wrong::Unasked);
             }
             Ok(Wrong::List)
@@ -122,34 +128,39 @@ fn later_wrong(
 
 // What is wrong with the first row that differs from the printed receipt with this content.
 #[tactic(auto, unfolding(crate::specs::Shape::shape_wrong))]
-fn shape_wrong(
+fn row_defect(
     alloc: Global,
     lists_root: &[u8; 32],
     result_root: Option<&[u8; 32]>,
-    shown: &Shown,
+    contents: &ReceiptContents,
     rows: &[Vec<&[u8]>],
-    k: usize,
+    row_number: usize,
 ) -> Result<Wrong, AllocError>
-    ensures { IfOk result (λ wrong. wrong ≡ shape.shape_wrong lists_root.now
+    ensures { IfOk result (λ defect. defect ≡ shape.shape_wrong lists_root.now
         (option_map (λ root. root.now) result_root.entry)
-        (content shown.now) (rows_in rows.now) k) }
+        (content contents.now) (rows_in rows.now) row_number) }
 {
-    if rows.len() <= k {
+    if rows.len() <= row_number {
         return Ok(Wrong::Missing);
     }
-    if k == 0 {
-        return Ok(header_wrong(rows));
+    if row_number == 0 {
+        return Ok(header_defect(rows));
     }
-    if k == 1 {
-        return root_wrong(alloc, lists_root, shown.count, fields_from(rows, 1, 0));
+    if row_number == 1 {
+        return root_defect(
+            alloc,
+            lists_root,
+            contents.member_count,
+            fields_from(rows, 1, 0),
+        );
     }
-    if k == 2 {
+    if row_number == 2 {
         return Ok(Wrong::OpeningRow);
     }
-    if k < shown.end() {
+    if row_number < contents.lists_end() {
         return Ok(Wrong::List);
     }
-    later_wrong(alloc, result_root, shown, rows, k)
+    later_row_defect(alloc, result_root, contents, rows, row_number)
 }
 
 /// The fault of the first row of a text that differs from the printed receipt with this content.
@@ -158,18 +169,18 @@ pub(crate) fn shape_fault(
     alloc: Global,
     lists_root: &[u8; 32],
     result_root: Option<&[u8; 32]>,
-    shown: &Shown,
+    contents: &ReceiptContents,
     rows: &[Vec<&[u8]>],
     text: &[u8],
 ) -> Result<Option<Fault>, AllocError>
     ensures { IfOk result (λ fault. fault ≡ shape.shape_fault lists_root.now
-        (option_map (λ root. root.now) result_root.entry) (content shown.now)
+        (option_map (λ root. root.now) result_root.entry) (content contents.now)
         (rows_in rows.now) text.now) }
 {
-    let printed = receipt_text(alloc, lists_root, result_root, shown)?;
-    let Some(k) = first_unlike(text, printed.as_slice()) else {
+    let printed_text = receipt_text(alloc, lists_root, result_root, contents)?;
+    let Some(row_number) = first_unlike(text, printed_text.as_slice()) else {
         return Ok(None);
     };
-    let wrong = shape_wrong(alloc, lists_root, result_root, shown, rows, k)?;
-    Ok(Some(at(k, wrong)))
+    let defect = row_defect(alloc, lists_root, result_root, contents, rows, row_number)?;
+    Ok(Some(row_fault(row_number, defect)))
 }

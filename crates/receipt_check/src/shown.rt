@@ -9,17 +9,17 @@ use crate::rows::{cell, field, fields_from, is};
 /// The content of a receipt. Numbers and digests are as they are written. The last three fields are of
 /// the result.
 #[derive(Clone, Copy)]
-pub(crate) struct Shown<'r, 'a> {
+pub(crate) struct ReceiptContents<'r, 'a> {
     /// The member's side.
     pub(crate) kind: Kind,
     /// The member's name.
     pub(crate) name: &'a [u8],
     /// How many members there are, in digits.
-    pub(crate) count: &'a [u8],
+    pub(crate) member_count: &'a [u8],
     /// The member's number from 0, in digits.
-    pub(crate) index: &'a [u8],
+    pub(crate) member_index: &'a [u8],
     /// The salt and the path that open the root of the lists.
-    pub(crate) opening: &'r [&'a [u8]],
+    pub(crate) lists_opening: &'r [&'a [u8]],
     /// The quota of a programme.
     pub(crate) quota: &'a [u8],
     /// Whether a programme has a row for its list.
@@ -27,15 +27,15 @@ pub(crate) struct Shown<'r, 'a> {
     /// The names on the member's list.
     pub(crate) list: &'r [&'a [u8]],
     /// Whether the member is withdrawn.
-    pub(crate) gone: bool,
+    pub(crate) withdrawn: bool,
     /// The row of the real name after its `N`, in pieces at its commas; nothing without such a row.
-    pub(crate) named: &'r [&'a [u8]],
+    pub(crate) name_pieces: &'r [&'a [u8]],
     /// The salt and the path that open the root of the result.
-    pub(crate) second: &'r [&'a [u8]],
+    pub(crate) result_opening: &'r [&'a [u8]],
     /// The programme of a resident, if there is one.
-    pub(crate) own: Option<&'a [u8]>,
+    pub(crate) own_programme: Option<&'a [u8]>,
     /// The rows after the result's first row: a programme's residents, or the answers to a resident.
-    pub(crate) after: &'r [Vec<&'a [u8]>],
+    pub(crate) detail_rows: &'r [Vec<&'a [u8]>],
 }
 
 // The side of the member whose receipt has these rows.
@@ -66,27 +66,27 @@ pub(crate) fn list_place(has_list: bool) -> usize
 
 /// The place of the row after the member's list and its withdrawal, where the row of a real name
 /// stands.
-pub(crate) fn named_place(has_list: bool, gone: bool) -> usize
-    ensures { result ≡ receipt.named_place has_list gone }
+pub(crate) fn real_name_place(has_list: bool, withdrawn: bool) -> usize
+    ensures { result ≡ receipt.named_place has_list withdrawn }
 {
-    list_place(has_list) + if gone { 2 } else { 1 }
+    list_place(has_list) + if withdrawn { 2 } else { 1 }
 }
 
 /// Whether there is a row of the real name.
-pub(crate) fn has_real_name(named: &[&[u8]]) -> bool
-    ensures { result ≡ receipt.has_real_name (fields_in named.now) }
+pub(crate) fn has_real_name(name_pieces: &[&[u8]]) -> bool
+    ensures { result ≡ receipt.has_real_name (fields_in name_pieces.now) }
 {
-    match named.split_first() {
+    match name_pieces.split_first() {
         Some(_) => true,
         None => false,
     }
 }
 
 /// The place of the row after the member's rows of the lists.
-pub(crate) fn end_place(has_list: bool, gone: bool, named: &[&[u8]]) -> usize
-    ensures { result ≡ receipt.end_place has_list gone (fields_in named.now) }
+pub(crate) fn lists_end_place(has_list: bool, withdrawn: bool, name_pieces: &[&[u8]]) -> usize
+    ensures { result ≡ receipt.end_place has_list withdrawn (fields_in name_pieces.now) }
 {
-    named_place(has_list, gone) + if has_real_name(named) { 1 } else { 0 }
+    real_name_place(has_list, withdrawn) + if has_real_name(name_pieces) { 1 } else { 0 }
 }
 
 // The list of the member.
@@ -101,26 +101,27 @@ fn list_in<'r, 'a>(rows: &'r [Vec<&'a [u8]>]) -> &'r [&'a [u8]]
 }
 
 // Whether the member is withdrawn.
-fn gone_in(rows: &[Vec<&[u8]>]) -> bool
+fn withdrawn_in(rows: &[Vec<&[u8]>]) -> bool
     ensures { result ≡ receipt.gone_in (rows_in rows.now) }
 {
     is(cell(rows, list_place(has_list_in(rows)) + 1, 0), b"W")
 }
 
 // The row of the real name after its `N`, if there is one.
-fn named_in<'r, 'a>(rows: &'r [Vec<&'a [u8]>]) -> &'r [&'a [u8]]
+fn name_pieces_in<'r, 'a>(rows: &'r [Vec<&'a [u8]>]) -> &'r [&'a [u8]]
     ensures { fields_in result.now ≡ receipt.named_in (rows_in rows.now) }
 {
-    let k = named_place(has_list_in(rows), gone_in(rows));
-    if is(cell(rows, k, 0), b"N") {
-        return fields_from(rows, k, 1);
+    let row_number = real_name_place(has_list_in(rows), withdrawn_in(rows));
+    if is(cell(rows, row_number, 0), b"N") {
+        return fields_from(rows, row_number, 1);
     }
     &[]
 }
 
 // The programme of a resident, if the row says that there is one.
-fn own_in<'a>(row: &[&'a [u8]]) -> Option<&'a [u8]>
-    ensures { option_map (λ own. own.now) result ≡ receipt.own_in (fields_in row.now) }
+fn own_programme_in<'a>(row: &[&'a [u8]]) -> Option<&'a [u8]>
+    ensures { option_map (λ own_programme. own_programme.now) result
+        ≡ receipt.own_in (fields_in row.now) }
 {
     if is(field(row, 0), b"M") {
         Some(field(row, 2))
@@ -129,51 +130,55 @@ fn own_in<'a>(row: &[&'a [u8]]) -> Option<&'a [u8]>
     }
 }
 
-// The rows from row `k` on.
-fn rows_from<'r, 'a>(rows: &'r [Vec<&'a [u8]>], k: usize) -> &'r [Vec<&'a [u8]>]
-    ensures { rows_in result.now ≡ drop k (rows_in rows.now) }
+// The rows from row `start` on.
+fn rows_from<'r, 'a>(rows: &'r [Vec<&'a [u8]>], start: usize) -> &'r [Vec<&'a [u8]>]
+    ensures { rows_in result.now ≡ drop start (rows_in rows.now) }
 {
-    if k < rows.len() { &rows[k..] } else { &[] }
+    if start < rows.len() {
+        &rows[start..]
+    } else {
+        &[]
+    }
 }
 
 /// The content of the receipt with these rows.
 #[tactic(auto, unfolding(crate::specs::Receipt::read))]
-pub(crate) fn read<'r, 'a>(rows: &'r [Vec<&'a [u8]>]) -> Shown<'r, 'a>
+pub(crate) fn read_contents<'r, 'a>(rows: &'r [Vec<&'a [u8]>]) -> ReceiptContents<'r, 'a>
     ensures { content result ≡ receipt.read (rows_in rows.now) }
 {
     let has_list = has_list_in(rows);
-    let gone = gone_in(rows);
-    let named = named_in(rows);
-    let end = end_place(has_list, gone, named);
-    Shown {
+    let withdrawn = withdrawn_in(rows);
+    let name_pieces = name_pieces_in(rows);
+    let lists_end = lists_end_place(has_list, withdrawn, name_pieces);
+    ReceiptContents {
         kind: kind_in(rows),
         name: cell(rows, 0, 3),
-        count: cell(rows, 1, 1),
-        index: cell(rows, 2, 2),
-        opening: fields_from(rows, 2, 3),
+        member_count: cell(rows, 1, 1),
+        member_index: cell(rows, 2, 2),
+        lists_opening: fields_from(rows, 2, 3),
         quota: cell(rows, 3, 2),
         has_list,
         list: list_in(rows),
-        gone,
-        named,
-        second: fields_from(rows, end + 1, 3),
-        own: own_in(fields_from(rows, end + 2, 0)),
-        after: rows_from(rows, end + 3),
+        withdrawn,
+        name_pieces,
+        result_opening: fields_from(rows, lists_end + 1, 3),
+        own_programme: own_programme_in(fields_from(rows, lists_end + 2, 0)),
+        detail_rows: rows_from(rows, lists_end + 3),
     }
 }
 
-impl<'r, 'a> Shown<'r, 'a> {
+impl<'r, 'a> ReceiptContents<'r, 'a> {
     /// The place of the row after the member's rows of the lists.
-    pub(crate) fn end(&self) -> usize
+    pub(crate) fn lists_end(&self) -> usize
         ensures { result ≡ receipt.end_of (content self.now) }
     {
-        end_place(self.has_list, self.gone, self.named)
+        lists_end_place(self.has_list, self.withdrawn, self.name_pieces)
     }
 
     /// The answer to a resident's choice, from 0: a word and three numbers.
-    pub(crate) fn answer(&self, k: usize) -> &'r [&'a [u8]]
-        ensures { fields_in result.now ≡ receipt.answer (content self.now) k }
+    pub(crate) fn answer(&self, choice: usize) -> &'r [&'a [u8]]
+        ensures { fields_in result.now ≡ receipt.answer (content self.now) choice }
     {
-        fields_from(self.after, k, 3)
+        fields_from(self.detail_rows, choice, 3)
     }
 }

@@ -7,82 +7,96 @@ ghost use Rattle.receipt_check.specs.Shown.{content, fields_in};
 ghost use Rattle.receipt_check.specs.Side.{IsSide, receipt_of};
 
 use crate::rows::{cell, is};
-use crate::shown::Shown;
+use crate::shown::ReceiptContents;
 use docket_names::Texts;
 
 /// A good receipt that is compared with others.
 #[derive(Drop)]
-pub(crate) struct Side<'r, 'a> {
+pub(crate) struct ComparedReceipt<'r, 'a> {
     /// The content of the receipt.
-    pub(crate) shown: Shown<'r, 'a>,
+    pub(crate) contents: ReceiptContents<'r, 'a>,
     /// The names on the member's list.
     pub(crate) list: Texts,
     /// For a programme, the last place on its list that one of its residents has.
-    pub(crate) last: Option<usize>,
+    pub(crate) last_member_place: Option<usize>,
 }
 
 // The later of two places on a list; if only one is given, this one.
-fn later(place: Option<usize>, other: Option<usize>) -> Option<usize>
-    ensures { result ≡ pair.later place other }
+fn later(place: Option<usize>, other_place: Option<usize>) -> Option<usize>
+    ensures { result ≡ pair.later place other_place }
 {
-    match (place, other) {
-        (None, other) => other,
+    match (place, other_place) {
+        (None, other_place) => other_place,
         (Some(place), None) => Some(place),
-        (Some(place), Some(other)) => Some(if place < other { other } else { place }),
+        (Some(place), Some(other_place)) => Some(if place < other_place {
+            other_place
+        } else {
+            place
+        }),
     }
 }
 
 // The place of a name on the member's list.
-fn place_of(shown: &Shown, list: &Texts, name: &[u8]) -> Option<usize>
-    requires { list.now ≡ fields_in shown.now.list.now }
-    ensures place { result ≡ number_in (fields_in shown.now.list.now) name.now }
-    ensures within { IfSome result (λ k. k < 2 ^ 63) }
+fn place_of(contents: &ReceiptContents, list: &Texts, name: &[u8]) -> Option<usize>
+    requires { list.now ≡ fields_in contents.now.list.now }
+    ensures place { result ≡ number_in (fields_in contents.now.list.now) name.now }
+    ensures within { IfSome result (λ place. place < 2 ^ 63) }
 {
     match list.find(name) {
-        Some(place) if place < shown.list.len() => Some(place),
+        Some(place) if place < contents.list.len() => Some(place),
         _ => None,
     }
 }
 
 // The last place on the list that has one of the names in the rows after the result's first row.
-fn last_place(shown: &Shown, list: &Texts) -> Option<usize>
-    requires { list.now ≡ fields_in shown.now.list.now }
-    ensures last { result ≡ pair.last_place (content shown.now) }
-    ensures within { IfSome result (λ k. k < 2 ^ 63) }
+fn last_place(contents: &ReceiptContents, list: &Texts) -> Option<usize>
+    requires { list.now ≡ fields_in contents.now.list.now }
+    ensures last { result ≡ pair.last_place (content contents.now) }
+    ensures within { IfSome result (λ place. place < 2 ^ 63) }
 {
-    let mut last = None;
-    for k in 0..shown.after.len() {
-        last = later(last, place_of(shown, list, cell(shown.after, k, 1)));
+    let mut last_member_place = None;
+    for k in 0..contents.detail_rows.len() {
+        last_member_place = later(
+            last_member_place,
+            place_of(contents, list, cell(contents.detail_rows, k, 1)),
+        );
     }
-    last
+    last_member_place
 }
 
 /// The receipt with this content and these names on its list.
-pub(crate) fn side_of<'r, 'a>(shown: Shown<'r, 'a>, list: Texts) -> Side<'r, 'a>
-    requires { list ≡ fields_in shown.list.now }
-    ensures shown { receipt_of result ≡ content shown.entry }
+pub(crate) fn compared_receipt<'r, 'a>(
+    contents: ReceiptContents<'r, 'a>,
+    list: Texts,
+) -> ComparedReceipt<'r, 'a>
+    requires { list ≡ fields_in contents.list.now }
+    ensures shown { receipt_of result ≡ content contents.entry }
     ensures side { IsSide result }
 {
-    let last = last_place(&shown, &list);
-    Side { shown, list, last }
+    let last_member_place = last_place(&contents, &list);
+    ComparedReceipt {
+        contents,
+        list,
+        last_member_place,
+    }
 }
 
-impl<'r, 'a> Side<'r, 'a> {
+impl<'r, 'a> ComparedReceipt<'r, 'a> {
     /// The place of this name on the member's list.
     pub(crate) fn place(&self, name: &[u8]) -> Option<usize>
         requires { IsSide self.now }
         ensures place { result ≡ number_in (receipt_of self.now).list name.now }
-        ensures within { IfSome result (λ k. k < 2 ^ 63) }
+        ensures within { IfSome result (λ place. place < 2 ^ 63) }
     {
-        place_of(&self.shown, &self.list, name)
+        place_of(&self.contents, &self.list, name)
     }
 
     /// Whether the programme has the resident with this name.
     pub(crate) fn has(&self, name: &[u8]) -> bool
         ensures { result ≡ is_declared (members (receipt_of self.now)) name.now }
     {
-        for k in 0..self.shown.after.len() {
-            if is(name, cell(self.shown.after, k, 1)) {
+        for k in 0..self.contents.detail_rows.len() {
+            if is(name, cell(self.contents.detail_rows, k, 1)) {
                 return true;
             }
         }

@@ -162,12 +162,12 @@ impl From<AllocError> for CompareFault {
 }
 
 /// What is wrong, as a fault of the row at this place, which is counted from 0.
-pub(crate) fn at(place: usize, wrong: Wrong) -> Fault
+pub(crate) fn row_fault(place: usize, defect: Wrong) -> Fault
     requires { place < 2 ^ 63 }
-    ensures { result ≡ shape.at place wrong }
+    ensures { result ≡ shape.at place defect }
 {
     Fault {
         row: place + 1,
-        wrong,
+        wrong: defect,
     }
 }

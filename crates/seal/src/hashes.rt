@@ -11,13 +11,13 @@ ghost use Rattle.seal.specs.Tree.{seal_hash};
 use sha2::{Digest, Sha256};
 
 /// The salt of a leaf: the digest of the secret, the tree's tag and the place of the leaf, counted from 0.
-pub fn salt(secret: &[u8; 32], tag: u8, index: u64) -> [u8; 32]
-    ensures { result ≡ sha256 (secret.now ++ tag ∷ to_be_bytes w64 index) }
+pub fn salt(secret: &[u8; 32], tag: u8, leaf_index: u64) -> [u8; 32]
+    ensures { result ≡ sha256 (secret.now ++ tag ∷ to_be_bytes w64 leaf_index) }
 {
     let mut hasher = Sha256::new();
     hasher.update(&secret[..]);
     hasher.update(&[tag][..]);
-    hasher.update(&index.to_be_bytes()[..]);
+    hasher.update(&leaf_index.to_be_bytes()[..]);
     hasher.finalize()
 }
 
@@ -44,12 +44,12 @@ pub(crate) fn node_of(left: &[u8; 32], right: &[u8; 32]) -> [u8; 32]
 }
 
 /// The published root of a tree with this many leaves: the digest of the byte 2, the count and the top of the tree.
-pub fn published(count: u64, top: &[u8; 32]) -> [u8; 32]
-    ensures { result ≡ seal_hash count top.now }
+pub fn published(leaf_count: u64, top: &[u8; 32]) -> [u8; 32]
+    ensures { result ≡ seal_hash leaf_count top.now }
 {
     let mut hasher = Sha256::new();
     hasher.update(&[2u8][..]);
-    hasher.update(&count.to_be_bytes()[..]);
+    hasher.update(&leaf_count.to_be_bytes()[..]);
     hasher.update(&top[..]);
     hasher.finalize()
 }

@@ -9,7 +9,7 @@ use std::test::Fail;
 
 // The leaves of Certificate Transparency's test vectors. Beside each leaf stands the root of the tree of all
 // earlier leaves.
-const PUBLISHED: [(&[u8], &str); 9] = [
+const PUBLISHED_ROOTS: [(&[u8], &str); 9] = [
     (
         b"",
         "e3b0c44298fc1c149afbf4c8996fb92427ae41e4649b934ca495991b7852b855",
@@ -49,11 +49,11 @@ const PUBLISHED: [(&[u8], &str); 9] = [
 ];
 
 // The root of the leaves "0" to "999", by the recursion of RFC 9162.
-const OF_A_THOUSAND: &str = "638afa98022925bacfddadb15ef22fd0199c1ac99c2973b6158243d13fce05c2";
+const ROOT_OF_A_THOUSAND: &str = "638afa98022925bacfddadb15ef22fd0199c1ac99c2973b6158243d13fce05c2";
 
 // The sealed texts of the members of examples/nrmp.csv: before the match, and after the match with
 // examples/nrmp-sheet.csv.
-const SEALED: [(&[u8], &[u8]); 8] = [
+const SEALED_TEXTS: [(&[u8], &[u8]); 8] = [
     (b"Q,Mercy,2\nP,Mercy,Darrius,Joseph\n", b"F,Mercy,0,2\n"),
     (
         b"Q,City,2\nP,City,Darrius,Arthur,Sunny,Latha,Joseph\n",
@@ -86,7 +86,7 @@ const SEALED: [(&[u8], &[u8]); 8] = [
 ];
 
 // A digest in hexadecimal.
-fn shown(alloc: Global, digest: &[u8; 32]) -> Result<String, Fail> {
+fn hexadecimal(alloc: Global, digest: &[u8; 32]) -> Result<String, Fail> {
     let mut text = String::new(alloc);
     for byte in digest {
         text.push_str(&format!(in alloc; "{byte:02x}")?)?;
@@ -95,23 +95,23 @@ fn shown(alloc: Global, digest: &[u8; 32]) -> Result<String, Fail> {
 }
 
 // The hash of a leaf without salt, as in Certificate Transparency.
-fn plain(text: &[u8]) -> [u8; 32] {
+fn plain_leaf_hash(text: &[u8]) -> [u8; 32] {
     let mut hasher = Sha256::new();
     hasher.update(&[0u8][..]);
     hasher.update(text);
     hasher.finalize()
 }
 
-// Tests that the root of these hashes is `wanted`, computed at once and in a tree that is stored whole. Each leaf has
-// to open the root from its own place and by its own path only.
+// Tests that the root of these hashes is `wanted_root`, computed at once and in a tree that is stored whole. Each leaf
+// has to open the root from its own place and by its own path only.
 fn opens_each<R: Abort>(
     rt: &R,
     alloc: Global,
     hashes: &[[u8; 32]],
-    wanted: &str,
+    wanted_root: &str,
 ) -> Result<(), Fail> {
     let root_hash = root(alloc, hashes)?;
-    assert_eq!(rt; shown(alloc, &root_hash)?.as_str(), wanted);
+    assert_eq!(rt; hexadecimal(alloc, &root_hash)?.as_str(), wanted_root);
     let published_root = published(hashes.len() as u64, &root_hash);
     let tree = Tree::new(alloc, hashes)?;
     assert_eq!(rt; tree.root(), root_hash);
@@ -134,9 +134,9 @@ fn opens_each<R: Abort>(
 #[test]
 fn roots_are_the_published_ones(rt: HostRuntime) -> Result<(), Fail> {
     let mut hashes = Vec::new(rt.alloc());
-    for (text, wanted) in PUBLISHED {
-        opens_each(&rt, rt.alloc(), &hashes, wanted)?;
-        hashes.push(plain(text))?;
+    for (text, wanted_root) in PUBLISHED_ROOTS {
+        opens_each(&rt, rt.alloc(), &hashes, wanted_root)?;
+        hashes.push(plain_leaf_hash(text))?;
     }
     Ok(())
 }
@@ -145,9 +145,9 @@ fn roots_are_the_published_ones(rt: HostRuntime) -> Result<(), Fail> {
 fn a_thousand_leaves(rt: HostRuntime) -> Result<(), Fail> {
     let mut hashes = Vec::new(rt.alloc());
     for number in 0..1_000 {
-        hashes.push(plain(format!(in rt.alloc(); "{number}")?.as_bytes()))?;
+        hashes.push(plain_leaf_hash(format!(in rt.alloc(); "{number}")?.as_bytes()))?;
     }
-    opens_each(&rt, rt.alloc(), &hashes, OF_A_THOUSAND)
+    opens_each(&rt, rt.alloc(), &hashes, ROOT_OF_A_THOUSAND)
 }
 
 #[test]
@@ -155,7 +155,7 @@ fn a_docket_is_sealed(rt: HostRuntime) -> Result<(), Fail> {
     let mut secret = [0u8; 32];
     secret[31] = 1;
     let (mut lists, mut results) = (Vec::new(rt.alloc()), Vec::new(rt.alloc()));
-    for (index, (list, result)) in SEALED.iter().enumerate() {
+    for (index, (list, result)) in SEALED_TEXTS.iter().enumerate() {
         lists.push(leaf_hash(&salt(&secret, b'L', index as u64), list))?;
         results.push(leaf_hash(&salt(&secret, b'R', index as u64), result))?;
     }
@@ -171,9 +171,9 @@ fn a_docket_is_sealed(rt: HostRuntime) -> Result<(), Fail> {
         &results,
         "c52943499363d152fc194eee6eff38789f5bb3126601424c8b1a63043ae278b0",
     )?;
-    let salt_4 = shown(rt.alloc(), &salt(&secret, b'L', 4))?;
+    let salt_of_leaf_4 = hexadecimal(rt.alloc(), &salt(&secret, b'L', 4))?;
     assert_eq!(rt;
-        salt_4.as_str(),
+        salt_of_leaf_4.as_str(),
         "9191b951097bbfa6354e1af753473f616daad352c00c681dd5c7b0de245ef9dc"
     );
     Ok(())

@@ -12,7 +12,7 @@ use std::marker::Model;
 /// A tree over leaf hashes. Clauses see the tree as the list of its leaf hashes.
 #[derive(Drop)]
 pub struct Tree {
-    count: usize,
+    leaf_count: usize,
     // All levels one after another: the leaf hashes first, and the root last.
     nodes: Vec<[u8; 32]>,
 }
@@ -23,26 +23,26 @@ impl Model for Tree {
 
     ghost Value = { List (List ℕ) };
 
-    ghost view = { λ t. take t.count t.nodes.items };
+    ghost view = { λ t. take t.leaf_count t.nodes.items };
 
-    ghost invariant = { λ t. (t.count ≤ length t.nodes.items)
-        × (t.nodes.items ≡ all_levels (take t.count t.nodes.items)) };
+    ghost invariant = { λ t. (t.leaf_count ≤ length t.nodes.items)
+        × (t.nodes.items ≡ all_levels (take t.leaf_count t.nodes.items)) };
 }
 
-// Appends the level above the last one, which begins at `start`.
-fn push_parents(nodes: &mut Vec<[u8; 32]>, start: usize) -> Result<(), AllocError>
-    requires { start ≤ vec_len nodes.old }
+// Appends the level above the last one, which begins at place `level_start`.
+fn push_parents(nodes: &mut Vec<[u8; 32]>, level_start: usize) -> Result<(), AllocError>
+    requires { level_start ≤ vec_len nodes.old }
     ensures { OnOk result
-        (nodes.new.items ≡ nodes.old.items ++ pair_up (drop start nodes.old.items)) }
+        (nodes.new.items ≡ nodes.old.items ++ pair_up (drop level_start nodes.old.items)) }
 {
-    let count = nodes.len() - start;
-    for k in 0..count / 2 {
-        let parent = node_of(&nodes[start + 2 * k], &nodes[start + 2 * k + 1]);
+    let node_count = nodes.len() - level_start;
+    for k in 0..node_count / 2 {
+        let parent = node_of(&nodes[level_start + 2 * k], &nodes[level_start + 2 * k + 1]);
         nodes.push(parent)?;
     }
-    if count % 2 == 1 {
-        let last = nodes[start + count - 1];
-        nodes.push(last)?;
+    if node_count % 2 == 1 {
+        let last_node = nodes[level_start + node_count - 1];
+        nodes.push(last_node)?;
     }
     Ok(())
 }
@@ -51,17 +51,17 @@ impl Tree {
     /// The tree over these leaf hashes. The tree needs memory for two hashes for each leaf, and for one hash for each
     /// level. The only error is out of memory.
     pub fn new(alloc: Global, hashes: &[[u8; 32]]) -> Result<Tree, AllocError>
-        ensures { IfOk result (λ t. t ≡ hashes.now) }
+        ensures { IfOk result (λ tree_leaves. tree_leaves ≡ hashes.now) }
     {
         let mut nodes = hashes.to_vec(alloc)?;
-        let mut start = 0;
-        while nodes.len() - start > 1 {
-            let end = nodes.len();
-            push_parents(&mut nodes, start)?;
-            start = end;
+        let mut level_start = 0;
+        while nodes.len() - level_start > 1 {
+            let next_start = nodes.len();
+            push_parents(&mut nodes, level_start)?;
+            level_start = next_start;
         }
         Ok(Tree {
-            count: hashes.len(),
+            leaf_count: hashes.len(),
             nodes,
         })
     }
@@ -76,25 +76,25 @@ impl Tree {
         }
     }
 
-    /// The path by which the leaf at place `index` climbs to the root: the siblings on the way, the lowest first. The
-    /// only error is out of memory.
-    pub fn opening(&self, alloc: Global, index: usize) -> Result<Vec<[u8; 32]>, AllocError>
-        requires { index < length self.now }
-        ensures { IfOk result (λ p. p.items ≡ path_of index self.now) }
+    /// The path by which the leaf at place `leaf_index` climbs to the root: the siblings on the way, the lowest first.
+    /// The only error is out of memory.
+    pub fn opening(&self, alloc: Global, leaf_index: usize) -> Result<Vec<[u8; 32]>, AllocError>
+        requires { leaf_index < length self.now }
+        ensures { IfOk result (λ path. path.items ≡ path_of leaf_index self.now) }
     {
         let mut path = Vec::new(alloc);
-        let mut start = 0;
-        let mut count = self.count;
-        let mut place = index;
-        while count > 1 {
+        let mut level_start = 0;
+        let mut node_count = self.leaf_count;
+        let mut place = leaf_index;
+        while node_count > 1 {
             if place % 2 == 1 {
-                path.push(self.nodes[start + place - 1])?;
-            } else if place + 1 < count {
-                path.push(self.nodes[start + place + 1])?;
+                path.push(self.nodes[level_start + place - 1])?;
+            } else if place + 1 < node_count {
+                path.push(self.nodes[level_start + place + 1])?;
             }
-            start += count;
+            level_start += node_count;
             place /= 2;
-            count = count / 2 + count % 2;
+            node_count = node_count / 2 + node_count % 2;
         }
         Ok(path)
     }

@@ -9,7 +9,7 @@ use Rattle.records.specs.RowText.{row}
 use Rattle.seal.specs.Tree.{root, path_of, seal_hash}
 use Rattle.seal_text.specs.Sealed.{hashes_of, opening_row, part_text, receipt_text, result_text_if, root_row, root_row_of, salt_of}
 use Rattle.seal_text.specs.Grown.{IsGrown, texts_in, texts_of}
-use Rattle.seal_text.specs.declared.grown.Grown.{Grown}
+use Rattle.seal_text.specs.declared.grown.TextTree.{TextTree}
 use Rattle.seal_text.specs.declared.leaves.Section.TheVariants.{Lists}
 use Rattle.seal_text.proofs.LeafFacts.{length-hashes_of}
 use Rattle.seal_text.proofs.Steps.{grows_three}
@@ -20,7 +20,7 @@ pub grows_six : (a b c d e f g : Vec ℕ) (u v w x y z : List ℕ) → Grows a b
 grows_six a b c d e f g u v w x y z h k l m n o = grows_three a b c g u v _ h k (grows_both c d g w _ l (grows_three d e f g x y z m n o))
 
 -- the row of a grown tree's root is the row of the root over the tree's texts
-pub root_row_same : (secret : List ℕ) (grown : Grown) → IsGrown secret grown
+pub root_row_same : (secret : List ℕ) (grown : TextTree) → IsGrown secret grown
     → root_row grown.section (length grown.texts.items) (seal_hash (length grown.texts.items) (root grown.tree)) ≡ root_row_of secret grown.section (texts_in grown)
 root_row_same secret grown h =
     let many : length (texts_in grown) ≡ length grown.texts.items = length-map grown.texts.items (λ (text : Vec ℕ). text.items) in
@@ -28,13 +28,13 @@ root_row_same secret grown h =
     ∙ ap (λ n. root_row grown.section n (seal_hash n (root (hashes_of secret grown.section (texts_in grown))))) (sym many)
 
 -- a grown tree has one leaf for each text
-pub leaves_counted : (secret : List ℕ) (grown : Grown) → IsGrown secret grown → length grown.tree ≡ length grown.texts.items
+pub leaves_counted : (secret : List ℕ) (grown : TextTree) → IsGrown secret grown → length grown.tree ≡ length grown.texts.items
 leaves_counted secret grown h =
     ap (λ (t : List (List ℕ)). length t) h ∙ length-hashes_of secret grown.section (texts_in grown) ∙ length-map grown.texts.items (λ (text : Vec ℕ). text.items)
 
 -- the part of a receipt about one tree is the row of its root, the row of the opening and the
 -- leaf's text, one after another
-pub part_made : (secret : List ℕ) (grown : Grown) (i : ℕ) (salt text : List ℕ) (path : List (List ℕ)) (a b c d : Vec ℕ) → IsGrown secret grown
+pub part_made : (secret : List ℕ) (grown : TextTree) (i : ℕ) (salt text : List ℕ) (path : List (List ℕ)) (a b c d : Vec ℕ) → IsGrown secret grown
     → salt ≡ salt_of secret grown.section i → path ≡ path_of i grown.tree → text ≡ get_or (texts_in grown) i []
     → Grows a b (root_row grown.section (length grown.texts.items) (seal_hash (length grown.texts.items) (root grown.tree))) → Grows b c (opening_row grown.section i salt path) → Grows c d text
     → Grows a d (part_text secret grown.section (texts_in grown) i)

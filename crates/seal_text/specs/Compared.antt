@@ -10,7 +10,7 @@ use Rattle.receipt_check.specs.declared.published.Published.{Published}
 use Rattle.receipt_check.specs.declared.wrong.CompareFault.{CompareFault}
 use Rattle.receipt_check.specs.declared.wrong.CompareFault.TheVariants as faults
 use Rattle.seal_text.specs.Status.{compare_status_of}
-use Rattle.seal_text.specs.declared.compare_line.Rows.{Rows}
+use Rattle.seal_text.specs.declared.compare_line.PublishedRows.{PublishedRows}
 
 -- The two files have these bytes. Either the sentence on their receipts was appended, and the answer says whether the
 -- receipts agree; or the answer is the fault.
@@ -35,14 +35,14 @@ pub record AnswersFolder (lists outcome : Published) (old new : Option (List ℕ
 
 -- one of the two rows isn't a number, a comma and 64 small hexadecimal digits; nothing was written, and the status
 -- is 2
-pub record EndsBadRow (rows : Rows) (old new : Option (List ℕ)) (status : ℕ) : Type 0 where
+pub record EndsBadRow (rows : PublishedRows) (old new : Option (List ℕ)) (status : ℕ) : Type 0 where
   pub bad : (published_in rows.lists.now ≡ None) ⊎ (published_in rows.outcome.now ≡ None)
   pub nothing : new ≡ old
   pub tells : status ≡ 2
 
 -- the rows write these two roots with their numbers of members, and receipts were compared under them, or a file was
 -- not read
-pub record EndsCompared (Answers : Published → Published → Result Bool CompareFault → Type 0) (rows : Rows) (old new : Option (List ℕ)) (status : ℕ)
+pub record EndsCompared (Answers : Published → Published → Result Bool CompareFault → Type 0) (rows : PublishedRows) (old new : Option (List ℕ)) (status : ℕ)
     : Type 0 where
   pub lists : Published
   pub outcome : Published
@@ -51,10 +51,10 @@ pub record EndsCompared (Answers : Published → Published → Result Bool Compa
   pub ends : EndsServed (Answers lists outcome) compare_status_of old new status
 
 -- how the program ends when it compares two receipts; `EndsPairs` says it of the receipts of a directory
-abbrev pub EndsPair : Rows → Option (List ℕ) → Option (List ℕ) → ℕ → Type 0
+abbrev pub EndsPair : PublishedRows → Option (List ℕ) → Option (List ℕ) → ℕ → Type 0
 EndsPair rows old new status =
     EndsBadRow rows old new status ⊎ EndsCompared (λ lists outcome. AnswersPair lists outcome old new) rows old new status
 
-abbrev pub EndsPairs : Rows → Option (List ℕ) → Option (List ℕ) → ℕ → Type 0
+abbrev pub EndsPairs : PublishedRows → Option (List ℕ) → Option (List ℕ) → ℕ → Type 0
 EndsPairs rows old new status =
     EndsBadRow rows old new status ⊎ EndsCompared (λ lists outcome. AnswersFolder lists outcome old new) rows old new status

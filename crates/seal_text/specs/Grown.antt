@@ -2,7 +2,7 @@
 use Rattle.std.specs.Prelude.{◌≡◌, ℕ, ◌+◌, Option, IfSome, List, length, map, option_map}
 use Rattle.std.specs.Global.{Vec}
 use Rattle.seal_text.specs.Sealed.{hashes_of}
-use Rattle.seal_text.specs.declared.grown.Grown.{Grown}
+use Rattle.seal_text.specs.declared.grown.TextTree.{TextTree}
 use Rattle.seal_text.specs.declared.leaves.Section.{Section}
 use Rattle.seal_text.specs.declared.leaves.Section.TheVariants.{Lists, Outcome}
 use Rattle.seal_text.specs.declared.receipts.Trees.{Trees}
@@ -13,15 +13,15 @@ abbrev pub texts_of : List (Vec ℕ) → List (List ℕ)
 texts_of texts = map (λ (text : Vec ℕ). text.items) texts
 
 -- the texts of a tree's leaves
-abbrev pub texts_in : Grown → List (List ℕ)
+abbrev pub texts_in : TextTree → List (List ℕ)
 texts_in grown = texts_of grown.texts.items
 
 -- the tree is over the leaves of its texts
-abbrev pub IsGrown : List ℕ → Grown → Type 0
+abbrev pub IsGrown : List ℕ → TextTree → Type 0
 IsGrown secret grown = grown.tree ≡ hashes_of secret grown.section (texts_in grown)
 
 -- the tree is that of this section, and has this many leaves
-pub record IsGrownAs (secret : List ℕ) (section : Section) (count : ℕ) (grown : Grown) : Type 0 where
+pub record IsGrownAs (secret : List ℕ) (section : Section) (count : ℕ) (grown : TextTree) : Type 0 where
   pub is_grown : IsGrown secret grown
   pub section_is : grown.section ≡ section
   pub count_is : length grown.texts.items ≡ count

@@ -9,8 +9,8 @@ use Rattle.seal_text.specs.declared.line.Sources.{Sources}
 use Rattle.seal_text.specs.declared.line.Order.{Order}
 use Rattle.seal_text.specs.declared.line.Order.TheVariants.{Seal, Check, Pair, Pairs}
 use Rattle.seal_text.specs.declared.line.Roots.{Roots}
-use Rattle.seal_text.specs.declared.compare_line.Rows.{Rows}
-use Rattle.seal_text.specs.declared.compare_line.Two.{Two}
+use Rattle.seal_text.specs.declared.compare_line.PublishedRows.{PublishedRows}
+use Rattle.seal_text.specs.declared.compare_line.ReceiptPaths.{ReceiptPaths}
 use Rattle.seal_text.specs.declared.serve.Wanted.{Wanted}
 use Rattle.seal_text.specs.declared.serve.Wanted.TheVariants as wanted
 
@@ -70,30 +70,30 @@ pub record GivesRoots (rows : List Row) (roots : Roots) : Type 0 where
   pub outcome : first_of (codes "result") rows ≡ option_map (λ digits. digits.now) roots.outcome
 
 -- the values on the command line give these rows of roots
-pub record GivesRows (given : List Row) (rows : Rows) : Type 0 where
+pub record GivesRows (given : List Row) (rows : PublishedRows) : Type 0 where
   pub lists : first_of (codes "lists") given ≡ Some rows.lists.now
   pub outcome : first_of (codes "result") given ≡ Some rows.outcome.now
 
 -- the values on the command line name the files of these two receipts
-pub record GivesTwo (given : List Row) (two : Two) : Type 0 where
+pub record GivesTwo (given : List Row) (two : ReceiptPaths) : Type 0 where
   pub resident : first_of (codes "resident") given ≡ Some two.resident.now
   pub programme : first_of (codes "programme") given ≡ Some two.programme.now
 
 -- the values give the rows and the two receipts
-abbrev pub GivesPair : List Row → Rows → Two → Type 0
+abbrev pub GivesPair : List Row → PublishedRows → ReceiptPaths → Type 0
 GivesPair given rows two = GivesRows given rows × GivesTwo given two
 
 -- the values give the rows and name the directory
-abbrev pub GivesFolder : List Row → Rows → Text → Type 0
+abbrev pub GivesFolder : List Row → PublishedRows → Text → Type 0
 GivesFolder given rows directory = GivesRows given rows × (first_of (codes "directory") given ≡ Some directory)
 
 -- the values don't give both rows of roots and two receipts; `NamesNoFolder` says that they don't give both rows
 -- and a directory
 abbrev pub NamesNoPair : List Row → Type 0
-NamesNoPair given = (rows : Rows) (two : Two) → GivesPair given rows two → ⊥
+NamesNoPair given = (rows : PublishedRows) (two : ReceiptPaths) → GivesPair given rows two → ⊥
 
 abbrev pub NamesNoFolder : List Row → Type 0
-NamesNoFolder given = (rows : Rows) (directory : Text) → GivesFolder given rows directory → ⊥
+NamesNoFolder given = (rows : PublishedRows) (directory : Text) → GivesFolder given rows directory → ⊥
 
 -- the values give what the order names
 abbrev pub GivesNamed : List Row → Order → Type 0

@@ -6,8 +6,8 @@ ghost use Rattle.receipt_check.specs.Published.{published_in};
 ghost use Rattle.seal_text.specs.Compared.{AnswersFolder, AnswersPair, EndsBadRow, EndsPair, EndsPairs};
 ghost use Rattle.seal_text.specs.Status.{compare_status_of};
 
-use crate::compare_line::{Rows, Two};
-use crate::directory::{load_all, paths_in, shown};
+use crate::compare_line::{PublishedRows, ReceiptPaths};
+use crate::directory::{load_files, paths_in, visible_path};
 use crate::status::compare_status;
 use program_shell::{Unread, load_path, refuse_unread};
 use receipt_check::{CompareFault, Published, published_of, serve_pair, serve_pairs};
@@ -18,11 +18,11 @@ use std::random::RandomSource;
 use std::rt::Files;
 
 // Writes that the value of an option isn't the row of a root, and returns the exit status.
-fn refuse_row<T: Eprint>(console: &T, word: &str) -> ExitCode
+fn refuse_row<T: Eprint>(console: &T, option_name: &str) -> ExitCode
     ensures { exit_status_in result ≡ 2 }
 {
     let _ = eprintln!(console;
-        "residency: --{word}: not a number, a comma and 64 small hexadecimal digits"
+        "residency: --{option_name}: not a number, a comma and 64 small hexadecimal digits"
     );
     ExitCode::from(2)
 }
@@ -36,19 +36,19 @@ fn tell<T: Eprint>(console: &T, path: Option<&str>, fault: &CompareFault) {
 }
 
 // The path of the file at fault as it is shown, if a file is at fault.
-fn path_at(alloc: Global, paths: &[String], fault: &CompareFault) -> Option<String> {
+fn path_at_fault(alloc: Global, paths: &[String], fault: &CompareFault) -> Option<String> {
     match fault {
-        CompareFault::Wrong(file, _) => shown(alloc, paths.get(*file)?.as_str()).ok(),
+        CompareFault::Wrong(file, _) => visible_path(alloc, paths.get(*file)?.as_str()).ok(),
         CompareFault::Memory | CompareFault::Write => None,
     }
 }
 
 // Writes that a file of a directory was not read, and returns the exit status.
-fn refuse_one<T: Eprint>(alloc: Global, unread: &Unread, console: &T) -> ExitCode
+fn refuse_file<T: Eprint>(alloc: Global, unread: &Unread, console: &T) -> ExitCode
     ensures { exit_status_in result ≡ 1 }
 {
     let path = match unread {
-        Unread::Memory(path) | Unread::Unreadable(path) => shown(alloc, *path),
+        Unread::Memory(path) | Unread::Unreadable(path) => visible_path(alloc, *path),
     };
     match (path, unread) {
         (Ok(path), Unread::Unreadable(_)) => {
@@ -65,7 +65,7 @@ fn compare_two<W: Write, T: Eprint, H: RandomSource + Files + AllocGlobal>(
     alloc: Global,
     lists: &Published,
     outcome: &Published,
-    two: &Two,
+    paths: &ReceiptPaths,
     writer: &mut W,
     console: &T,
 ) -> ExitCode
@@ -73,11 +73,11 @@ fn compare_two<W: Write, T: Eprint, H: RandomSource + Files + AllocGlobal>(
         (W.contents writer.old) (W.contents writer.new)) compare_status_of
         (W.contents writer.old) (W.contents writer.new) (exit_status_in result) }
 {
-    let resident = match load_path(rt, two.resident) {
+    let resident = match load_path(rt, paths.resident) {
         Ok(resident) => resident,
         Err(unread) => return refuse_unread(console, &unread),
     };
-    let programme = match load_path(rt, two.programme) {
+    let programme = match load_path(rt, paths.programme) {
         Ok(programme) => programme,
         Err(unread) => return refuse_unread(console, &unread),
     };
@@ -85,8 +85,8 @@ fn compare_two<W: Write, T: Eprint, H: RandomSource + Files + AllocGlobal>(
     let answer = serve_pair(rt, alloc, lists, outcome, resident, programme, writer);
     if let Err(fault) = &answer {
         let path = match fault {
-            CompareFault::Wrong(0, _) => Some(two.resident),
-            CompareFault::Wrong(_, _) => Some(two.programme),
+            CompareFault::Wrong(0, _) => Some(paths.resident),
+            CompareFault::Wrong(_, _) => Some(paths.programme),
             CompareFault::Memory | CompareFault::Write => None,
         };
         tell(console, path, fault);
@@ -112,13 +112,13 @@ fn compare_all<W: Write, T: Eprint, H: RandomSource + Files + AllocGlobal>(
         Ok(paths) => paths,
         Err(unread) => return refuse_unread(console, &unread),
     };
-    let files = match load_all(rt, alloc, paths.as_slice()) {
+    let files = match load_files(rt, alloc, paths.as_slice()) {
         Ok(files) => files,
-        Err(unread) => return refuse_one(alloc, &unread, console),
+        Err(unread) => return refuse_file(alloc, &unread, console),
     };
     let answer = serve_pairs(rt, alloc, lists, outcome, files.as_slice(), writer);
     if let Err(fault) = &answer {
-        match path_at(alloc, paths.as_slice(), fault) {
+        match path_at_fault(alloc, paths.as_slice(), fault) {
             Some(path) => tell(console, Some(path.as_str()), fault),
             None => tell(console, None, fault),
         }
@@ -130,8 +130,8 @@ fn compare_all<W: Write, T: Eprint, H: RandomSource + Files + AllocGlobal>(
 pub(crate) fn compare_pair<W: Write, T: Eprint, H: RandomSource + Files + AllocGlobal>(
     rt: &H,
     alloc: Global,
-    rows: &Rows,
-    two: &Two,
+    rows: &PublishedRows,
+    paths: &ReceiptPaths,
     writer: &mut W,
     console: &T,
 ) -> ExitCode
@@ -144,14 +144,14 @@ pub(crate) fn compare_pair<W: Write, T: Eprint, H: RandomSource + Files + AllocG
     let Some(outcome) = published_of(rows.outcome.as_bytes()) else {
         return refuse_row(console, "result");
     };
-    compare_two(rt, alloc, &lists, &outcome, two, writer, console)
+    compare_two(rt, alloc, &lists, &outcome, paths, writer, console)
 }
 
 /// Compares the receipts of a directory under the roots in these rows, and returns the exit status.
 pub(crate) fn compare_pairs<W: Write, T: Eprint, H: RandomSource + Files + AllocGlobal>(
     rt: &H,
     alloc: Global,
-    rows: &Rows,
+    rows: &PublishedRows,
     directory: &str,
     writer: &mut W,
     console: &T,

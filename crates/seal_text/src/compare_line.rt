@@ -4,7 +4,7 @@ ghost use Rattle.clap.specs.Words.{app_of, first_of, found_of, rows_of, rule_of}
 ghost use Rattle.program_shell.specs.Flags.{required, word_rule};
 ghost use Rattle.seal_text.specs.Line.{GivesFolder, GivesPair, GivesRows, GivesTwo, NamesNoFolder, NamesNoPair, comparing_app, pair_app, pairs_app};
 
-use crate::line::valued;
+use crate::line::option_with_value;
 use clap::{Arg, ArgMatches, Command};
 use program_shell::described;
 use std::alloc::{AllocError, Global};
@@ -37,7 +37,7 @@ Example: residency-seal pairs --lists 8,ROOT --result 8,ROOT receipts";
 
 /// The published rows of both trees: each has a number, a comma and a root's digits.
 #[derive(Clone, Copy, Debug, PartialEq, Eq)]
-pub struct Rows<'a> {
+pub struct PublishedRows<'a> {
     /// The row of the lists' root.
     pub lists: &'a str,
     /// The row of the result's root.
@@ -46,7 +46,7 @@ pub struct Rows<'a> {
 
 /// The paths of the files of two receipts.
 #[derive(Clone, Copy, Debug, PartialEq, Eq)]
-pub struct Two<'a> {
+pub struct ReceiptPaths<'a> {
     /// The path of the resident's receipt.
     pub resident: &'a str,
     /// The path of the programme's receipt.
@@ -54,48 +54,53 @@ pub struct Two<'a> {
 }
 
 // The description of a word that has to be given.
-fn word<'a>(alloc: Global, id: &'static str, value: &'static str, help: &'static str) -> Arg<'a>
+fn required_argument<'a>(
+    alloc: Global,
+    id: &'static str,
+    value_name: &'static str,
+    help: &'static str,
+) -> Arg<'a>
     ensures rule { rule_of result ≡ required (word_rule id.entry.now) }
     ensures own { result.global ≡ false }
 {
     Arg::new(alloc, id)
-        .value_name(value)
+        .value_name(value_name)
         .help(help)
         .required(true)
 }
 
 // The description of a command that compares, with its options for the roots.
-fn comparing<'a>(
+fn comparing_command<'a>(
     alloc: Global,
     name: &'a str,
-    call: &'a str,
+    usage: &'a str,
     about: &'a str,
     help: &'a str,
 ) -> Result<Command<'a>, AllocError>
     ensures { IfOk result (λ command. app_of command ≡ comparing_app name.entry.now) }
 {
-    let command = described(alloc, name, call, about, help);
+    let command = described(alloc, name, usage, about, help);
     let help = "The published number of members and root of the lists";
-    let command = command.arg(valued(alloc, "lists", "N,ROOT", help, true))?;
+    let command = command.arg(option_with_value(alloc, "lists", "N,ROOT", help, true))?;
     let help = "The published number of members and root of the result";
-    command.arg(valued(alloc, "result", "N,ROOT", help, true))
+    command.arg(option_with_value(alloc, "result", "N,ROOT", help, true))
 }
 
 /// The description of the command that compares two receipts.
-pub(crate) fn pair<'a>(alloc: Global) -> Result<Command<'a>, AllocError>
+pub(crate) fn pair_command<'a>(alloc: Global) -> Result<Command<'a>, AllocError>
     ensures { IfOk result (λ command. app_of command ≡ pair_app) }
 {
-    let call = "residency-seal pair --lists N,ROOT --result N,ROOT RESIDENT PROGRAMME";
+    let usage = "residency-seal pair --lists N,ROOT --result N,ROOT RESIDENT PROGRAMME";
     let about = "Says whether the receipts of a resident and a programme agree";
-    let command = comparing(alloc, "pair", call, about, PAIR_HELP)?;
-    let resident = word(
+    let command = comparing_command(alloc, "pair", usage, about, PAIR_HELP)?;
+    let resident = required_argument(
         alloc,
         "resident",
         "RESIDENT",
         "The file of the resident's receipt",
     );
     let command = command.arg(resident)?;
-    command.arg(word(
+    command.arg(required_argument(
         alloc,
         "programme",
         "PROGRAMME",
@@ -104,13 +109,13 @@ pub(crate) fn pair<'a>(alloc: Global) -> Result<Command<'a>, AllocError>
 }
 
 /// The description of the command that compares the receipts of a directory.
-pub(crate) fn pairs<'a>(alloc: Global) -> Result<Command<'a>, AllocError>
+pub(crate) fn pairs_command<'a>(alloc: Global) -> Result<Command<'a>, AllocError>
     ensures { IfOk result (λ command. app_of command ≡ pairs_app) }
 {
-    let call = "residency-seal pairs --lists N,ROOT --result N,ROOT DIRECTORY";
+    let usage = "residency-seal pairs --lists N,ROOT --result N,ROOT DIRECTORY";
     let about = "Says whether all receipts of a directory agree";
-    let command = comparing(alloc, "pairs", call, about, PAIRS_HELP)?;
-    command.arg(word(
+    let command = comparing_command(alloc, "pairs", usage, about, PAIRS_HELP)?;
+    command.arg(required_argument(
         alloc,
         "directory",
         "DIRECTORY",
@@ -119,7 +124,7 @@ pub(crate) fn pairs<'a>(alloc: Global) -> Result<Command<'a>, AllocError>
 }
 
 // The rows of roots that a command line gives, if it gives both.
-fn rows_named<'a>(matches: &ArgMatches<'a>) -> Option<Rows<'a>>
+fn rows_named<'a>(matches: &ArgMatches<'a>) -> Option<PublishedRows<'a>>
     ensures rows { IfSome result (GivesRows (rows_of (found_of matches.now))) }
     ensures none { result ≡ None
         → (first_of (codes "lists") (rows_of (found_of matches.now)) ≡ None)
@@ -129,13 +134,13 @@ fn rows_named<'a>(matches: &ArgMatches<'a>) -> Option<Rows<'a>>
         return None;
     };
     match matches.get_str("result") {
-        Some(outcome) => Some(Rows { lists, outcome }),
+        Some(outcome) => Some(PublishedRows { lists, outcome }),
         None => None,
     }
 }
 
 // The files of two receipts that a command line names, if it names both.
-fn two_named<'a>(matches: &ArgMatches<'a>) -> Option<Two<'a>>
+fn receipt_paths_named<'a>(matches: &ArgMatches<'a>) -> Option<ReceiptPaths<'a>>
     ensures files { IfSome result (GivesTwo (rows_of (found_of matches.now))) }
     ensures none { result ≡ None
         → (first_of (codes "resident") (rows_of (found_of matches.now)) ≡ None)
@@ -145,7 +150,7 @@ fn two_named<'a>(matches: &ArgMatches<'a>) -> Option<Two<'a>>
         return None;
     };
     match matches.get_str("programme") {
-        Some(programme) => Some(Two {
+        Some(programme) => Some(ReceiptPaths {
             resident,
             programme,
         }),
@@ -154,21 +159,23 @@ fn two_named<'a>(matches: &ArgMatches<'a>) -> Option<Two<'a>>
 }
 
 /// The rows and the files that the words of the command `pair` give, if they give all of them.
-pub(crate) fn pair_named<'a>(matches: &ArgMatches<'a>) -> Option<(Rows<'a>, Two<'a>)>
-    ensures pair { IfSome result (λ named.
-        GivesPair (rows_of (found_of matches.now)) named.0 named.1) }
+pub(crate) fn pair_named<'a>(
+    matches: &ArgMatches<'a>,
+) -> Option<(PublishedRows<'a>, ReceiptPaths<'a>)>
+    ensures pair { IfSome result (λ rows_and_paths.
+        GivesPair (rows_of (found_of matches.now)) rows_and_paths.0 rows_and_paths.1) }
     ensures none { result ≡ None → NamesNoPair (rows_of (found_of matches.now)) }
 {
-    match (rows_named(matches), two_named(matches)) {
-        (Some(rows), Some(two)) => Some((rows, two)),
+    match (rows_named(matches), receipt_paths_named(matches)) {
+        (Some(rows), Some(paths)) => Some((rows, paths)),
         _ => None,
     }
 }
 
 /// The rows and the directory that the words of the command `pairs` give, if they give all of them.
-pub(crate) fn pairs_named<'a>(matches: &ArgMatches<'a>) -> Option<(Rows<'a>, &'a str)>
-    ensures pairs { IfSome result (λ named.
-        GivesFolder (rows_of (found_of matches.now)) named.0 named.1.now) }
+pub(crate) fn pairs_named<'a>(matches: &ArgMatches<'a>) -> Option<(PublishedRows<'a>, &'a str)>
+    ensures pairs { IfSome result (λ rows_and_directory.
+        GivesFolder (rows_of (found_of matches.now)) rows_and_directory.0 rows_and_directory.1.now) }
     ensures none { result ≡ None → NamesNoFolder (rows_of (found_of matches.now)) }
 {
     let Some(rows) = rows_named(matches) else {

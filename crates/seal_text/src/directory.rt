@@ -19,15 +19,15 @@ fn with_slash(alloc: Global, path: &str) -> Result<String, AllocError> {
 // The names in a directory, each ended by a zero byte.
 fn names_in<H: Files>(rt: &H, alloc: Global, directory: &str) -> io::Result<Vec<u8>> {
     let mut names = Vec::new(alloc);
-    let mut opened = rt.open_dir(directory)?;
+    let mut open_directory = rt.open_dir(directory)?;
     // With less room than the longest name takes, a file system may refuse to read.
-    let mut room = [0u8; 4096];
+    let mut name_buffer = [0u8; 4096];
     for _ in 0..u64::MAX {
-        let count = opened.read(&mut room)?;
-        if count == 0 {
+        let byte_count = open_directory.read(&mut name_buffer)?;
+        if byte_count == 0 {
             return Ok(names);
         }
-        names.extend_from_slice(&room[..count])?;
+        names.extend_from_slice(&name_buffer[..byte_count])?;
     }
     Err(io::Error::from(io::ErrorKind::Other))
 }
@@ -47,7 +47,7 @@ fn sorted_paths<H: Files>(rt: &H, alloc: Global, directory: &str) -> io::Result<
     let directory = with_slash(alloc, directory)?;
     let names = names_in(rt, alloc, directory.as_str())?;
     let mut paths = Vec::new(alloc);
-    for name in names.as_slice().split(|c| *c == 0) {
+    for name in names.as_slice().split(|byte| *byte == 0) {
         if !name.is_empty() && !name.starts_with(b".") {
             paths.push(path_of(alloc, directory.as_str(), name)?)?;
         }
@@ -80,16 +80,20 @@ fn is_file<H: Files>(rt: &H, path: &str) -> bool {
 }
 
 /// The path with a question mark for each control character, since strangers may have chosen the names in a directory.
-pub(crate) fn shown(alloc: Global, path: &str) -> Result<String, AllocError> {
-    let mut shown = String::new(alloc);
-    for c in path.chars() {
-        shown.push(if c.is_control() { '?' } else { c })?;
+pub(crate) fn visible_path(alloc: Global, path: &str) -> Result<String, AllocError> {
+    let mut visible_text = String::new(alloc);
+    for character in path.chars() {
+        visible_text.push(if character.is_control() {
+            '?'
+        } else {
+            character
+        })?;
     }
-    Ok(shown)
+    Ok(visible_text)
 }
 
 /// The bytes of the files with these paths, in their order.
-pub(crate) fn load_all<'a, H: Files + AllocGlobal>(
+pub(crate) fn load_files<'a, H: Files + AllocGlobal>(
     rt: &H,
     alloc: Global,
     paths: &'a [String],

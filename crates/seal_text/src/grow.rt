@@ -21,8 +21,8 @@ pub(crate) fn put(text: &mut Vec<u8>, bytes: &[u8]) -> Result<(), AllocError>
 pub(crate) fn put_number(text: &mut Vec<u8>, number: usize) -> Result<(), AllocError>
     ensures { OnOk result (Grows text.old text.new (decimal number)) }
 {
-    let mut room = itoa::Buffer::new();
-    put(text, room.format(number).as_bytes())
+    let mut number_buffer = itoa::Buffer::new();
+    put(text, number_buffer.format(number).as_bytes())
 }
 
 // Writes a row with these fields.
@@ -30,8 +30,8 @@ fn write_row<W: Write>(alloc: Global, writer: &mut W, fields: &[&[u8]]) -> Resul
     ensures { OnOk result (Appends
         (W.contents writer.old) (W.contents writer.new) (row (map (λ f. f.now) fields.now))) }
 {
-    let mut room = room_for_rows(alloc)?;
-    let mut rows = RowWriter::new(writer, &mut room);
+    let mut row_buffer = room_for_rows(alloc)?;
+    let mut rows = RowWriter::new(writer, &mut row_buffer);
     rows.push(fields)?;
     rows.send()?;
     Ok(())

@@ -12,7 +12,7 @@ use std::alloc::{AllocError, Global};
 
 /// A tree with the texts of its leaves.
 #[derive(Drop)]
-pub(crate) struct Grown {
+pub(crate) struct TextTree {
     /// Which of a docket's two trees this is.
     pub(crate) section: Section,
     /// The texts of the tree's leaves.
@@ -26,15 +26,19 @@ fn put_root_row(
     alloc: Global,
     text: &mut Vec<u8>,
     section: Section,
-    count: usize,
+    leaf_count: usize,
     root: &[u8; 32],
 ) -> Result<(), AllocError>
-    ensures { OnOk result (Grows text.old text.new (root_row section count root.now)) }
+    ensures { OnOk result (Grows text.old text.new (root_row section leaf_count root.now)) }
 {
-    let mut room = itoa::Buffer::new();
-    let count = room.format(count).as_bytes();
-    let digits = hex::encode(alloc, *root)?;
-    put_row(alloc, text, &[section.word(), count, digits.as_bytes()])
+    let mut number_buffer = itoa::Buffer::new();
+    let count_digits = number_buffer.format(leaf_count).as_bytes();
+    let root_digits = hex::encode(alloc, *root)?;
+    put_row(
+        alloc,
+        text,
+        &[section.word(), count_digits, root_digits.as_bytes()],
+    )
 }
 
 // Adds the hashes of a path, and the end of its row.
@@ -59,35 +63,36 @@ fn put_opening(
     alloc: Global,
     text: &mut Vec<u8>,
     section: Section,
-    index: usize,
+    leaf_index: usize,
     salt: &[u8; 32],
     path: &[[u8; 32]],
 ) -> Result<(), AllocError>
-    ensures { OnOk result (Grows text.old text.new (opening_row section index salt.now path.now)) }
+    ensures { OnOk result
+        (Grows text.old text.new (opening_row section leaf_index salt.now path.now)) }
 {
     put(text, b"opens,")?;
     put_word(text, section)?;
     put(text, b",")?;
-    put_number(text, index)?;
+    put_number(text, leaf_index)?;
     put_digest(alloc, text, salt)?;
     put_path(alloc, text, path)
 }
 
-impl Grown {
+impl TextTree {
     /// The tree over these texts.
     pub(crate) fn new(
         alloc: Global,
         secret: &[u8; 32],
         section: Section,
         texts: Vec<Vec<u8>>,
-    ) -> Result<Grown, AllocError>
+    ) -> Result<TextTree, AllocError>
         ensures grown { IfOk result (IsGrown secret.now) }
-        ensures section { IfOk result (λ grown. grown.section ≡ section) }
-        ensures texts { IfOk result (λ grown. grown.texts.items ≡ texts.items) }
+        ensures section { IfOk result (λ text_tree. text_tree.section ≡ section) }
+        ensures texts { IfOk result (λ text_tree. text_tree.texts.items ≡ texts.items) }
     {
         let hashes = leaf_hashes(alloc, secret, section, texts.as_slice())?;
         let tree = Tree::new(alloc, hashes.as_slice())?;
-        Ok(Grown {
+        Ok(TextTree {
             section,
             texts,
             tree,
@@ -111,18 +116,25 @@ impl Grown {
         alloc: Global,
         text: &mut Vec<u8>,
         secret: &[u8; 32],
-        index: usize,
+        leaf_index: usize,
     ) -> Result<(), AllocError>
         requires grown { IsGrown secret.now self.now }
-        requires index { index < length self.now.texts.items }
+        requires index { leaf_index < length self.now.texts.items }
         ensures { OnOk result (Grows text.old text.new
-            (part_text secret.now self.now.section (texts_in self.now) index)) }
+            (part_text secret.now self.now.section (texts_in self.now) leaf_index)) }
     {
         self.put_root(alloc, text)?;
-        let salt = salt(secret, self.section.tag(), index as u64);
-        let path = self.tree.opening(alloc, index)?;
-        put_opening(alloc, text, self.section, index, &salt, path.as_slice())?;
+        let salt = salt(secret, self.section.tag(), leaf_index as u64);
+        let path = self.tree.opening(alloc, leaf_index)?;
+        put_opening(
+            alloc,
+            text,
+            self.section,
+            leaf_index,
+            &salt,
+            path.as_slice(),
+        )?;
         let texts = self.texts.as_slice();
-        put(text, texts[index].as_slice())
+        put(text, texts[leaf_index].as_slice())
     }
 }

@@ -22,7 +22,7 @@ mod serve;
 mod status;
 mod texts;
 
-pub use compare_line::{Rows, Two};
+pub use compare_line::{PublishedRows, ReceiptPaths};
 pub use fault::{SealFault, SecretFault};
 pub use laws::{law_receipt_opens, law_same_texts};
 pub use leaves::Section;

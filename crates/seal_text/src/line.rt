@@ -5,7 +5,9 @@ ghost use Rattle.clap.specs.declared.error.kind.ErrorKind.TheVariants.{MissingSu
 ghost use Rattle.program_shell.specs.Faults.{IsErrorOf};
 ghost use Rattle.seal_text.specs.Line.{GivesFiles, GivesRoots, IsOrdered, OrdersNothing, OrdersSeal, RefusesSeal, checking_app, option_rule, seal_app, sealed_app, sealing_app, sealing_word};
 
-use crate::compare_line::{Rows, Two, pair, pair_named, pairs, pairs_named};
+use crate::compare_line::{
+    PublishedRows, ReceiptPaths, pair_command, pair_named, pairs_command, pairs_named,
+};
 use crate::serve::Wanted;
 use clap::error::ErrorKind;
 use clap::{Arg, ArgMatches, Command};
@@ -79,73 +81,73 @@ pub enum Order<'a> {
     /// To check a receipt.
     Check(Roots<'a>),
     /// To compare a resident's receipt with a programme's.
-    Pair(Rows<'a>, Two<'a>),
+    Pair(PublishedRows<'a>, ReceiptPaths<'a>),
     /// To compare the receipts in a directory.
-    Pairs(Rows<'a>, &'a str),
+    Pairs(PublishedRows<'a>, &'a str),
 }
 
 /// The description of an option with a value.
-pub(crate) fn valued<'a>(
+pub(crate) fn option_with_value<'a>(
     alloc: Global,
     id: &'static str,
-    value: &'static str,
+    value_name: &'static str,
     help: &'static str,
-    needed: bool,
+    is_required: bool,
 ) -> Arg<'a>
-    ensures rule { rule_of result ≡ option_rule id.entry.now needed }
+    ensures rule { rule_of result ≡ option_rule id.entry.now is_required }
     ensures own { result.global ≡ false }
 {
     Arg::new(alloc, id)
         .long(id)
-        .value_name(value)
+        .value_name(value_name)
         .help(help)
-        .required(needed)
+        .required(is_required)
 }
 
 // The description of a command that seals, with its options for files.
-fn sealing<'a>(
+fn sealing_command<'a>(
     alloc: Global,
     name: &'a str,
-    call: &'a str,
+    usage: &'a str,
     about: &'a str,
     help: &'a str,
 ) -> Result<Command<'a>, AllocError>
     ensures { IfOk result (λ command. app_of command ≡ sealing_app name.entry.now) }
 {
-    let command = described(alloc, name, call, about, help);
-    let secret = valued(alloc, "secret", "FILE", "The file with the secret", true);
+    let command = described(alloc, name, usage, about, help);
+    let secret = option_with_value(alloc, "secret", "FILE", "The file with the secret", true);
     let command = command.arg(secret)?;
-    let sheet = valued(alloc, "sheet", "FILE", "The file with the placement", false);
+    let sheet = option_with_value(alloc, "sheet", "FILE", "The file with the placement", false);
     let command = command.arg(sheet)?;
-    let key = valued(alloc, "key", "FILE", "The file with the real names", false);
+    let key = option_with_value(alloc, "key", "FILE", "The file with the real names", false);
     command.arg(key)
 }
 
 // The description of the command that checks a receipt, with its options for roots.
-fn checking<'a>(alloc: Global) -> Result<Command<'a>, AllocError>
+fn checking_command<'a>(alloc: Global) -> Result<Command<'a>, AllocError>
     ensures { IfOk result (λ command. app_of command ≡ checking_app) }
 {
-    let call = "residency-seal check --lists ROOT [--result ROOT] < receipt.csv";
+    let usage = "residency-seal check --lists ROOT [--result ROOT] < receipt.csv";
     let about = "Says what a receipt shows, or what is wrong with it";
-    let command = described(alloc, "check", call, about, CHECK_HELP);
+    let command = described(alloc, "check", usage, about, CHECK_HELP);
     let help = "The published root of the lists";
-    let command = command.arg(valued(alloc, "lists", "ROOT", help, true))?;
+    let command = command.arg(option_with_value(alloc, "lists", "ROOT", help, true))?;
     let help = "The published root of the result";
-    command.arg(valued(alloc, "result", "ROOT", help, false))
+    command.arg(option_with_value(alloc, "result", "ROOT", help, false))
 }
 
 // The description of the program with the commands that seal and check.
 fn sealed_commands<'a>(alloc: Global) -> Result<Command<'a>, AllocError>
     ensures { IfOk result (λ command. app_of command ≡ sealed_app) }
 {
-    let roots = sealing(
+    let root_command = sealing_command(
         alloc,
         "root",
         "residency-seal root --secret FILE [--sheet FILE] [--key FILE] < docket.csv",
         "Writes the root of a docket's lists, and with a sheet that of the result",
         ROOT_HELP,
     )?;
-    let receipts = sealing(
+    let receipts_command = sealing_command(
         alloc,
         "receipts",
         "residency-seal receipts --secret FILE [--sheet FILE] [--key FILE] < docket.csv",
@@ -154,9 +156,9 @@ fn sealed_commands<'a>(alloc: Global) -> Result<Command<'a>, AllocError>
     )?;
     let about = "Seals a docket under a published root, and hands each member a receipt";
     let program = with_commands(alloc, "residency-seal", about, VERSION)?;
-    let program = with_command(program, roots)?;
-    let program = with_command(program, receipts)?;
-    with_command(program, checking(alloc)?)
+    let program = with_command(program, root_command)?;
+    let program = with_command(program, receipts_command)?;
+    with_command(program, checking_command(alloc)?)
 }
 
 // The description of the program with all its commands.
@@ -164,8 +166,8 @@ fn commands<'a>(alloc: Global) -> Result<Command<'a>, AllocError>
     ensures { IfOk result (λ command. app_of command ≡ seal_app) }
 {
     let program = sealed_commands(alloc)?;
-    let program = with_command(program, pair(alloc)?)?;
-    with_command(program, pairs(alloc)?)
+    let program = with_command(program, pair_command(alloc)?)?;
+    with_command(program, pairs_command(alloc)?)
 }
 
 // What the parser finds in the words, by these descriptions of commands.
@@ -238,7 +240,7 @@ fn order_named<'a>(matches: &ArgMatches<'a>) -> Option<Order<'a>>
             None => None,
         },
         Some(("pair", options)) => match pair_named(options) {
-            Some((rows, two)) => Some(Order::Pair(rows, two)),
+            Some((rows, paths)) => Some(Order::Pair(rows, paths)),
             None => None,
         },
         Some(("pairs", options)) => match pairs_named(options) {

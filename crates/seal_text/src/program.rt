@@ -70,8 +70,8 @@ where
         Ok(secret) => secret,
         Err(unread) => return refuse_unread(console, &unread),
     };
-    let loaded = match load_path_if(rt, files.sheet) {
-        Ok(loaded) => loaded,
+    let loaded_sheet = match load_path_if(rt, files.sheet) {
+        Ok(loaded_sheet) => loaded_sheet,
         Err(unread) => return refuse_unread(console, &unread),
     };
     let key = match load_path_if(rt, files.key) {
@@ -83,7 +83,7 @@ where
         Err(unread) => return refuse_unread(console, &unread),
     };
     let (docket, secret) = (docket.as_slice(), secret.as_slice());
-    let (sheet, key) = (lent(&loaded), lent(&key));
+    let (sheet, key) = (lent(&loaded_sheet), lent(&key));
     let answer = serve(rt, alloc, wanted, docket, sheet, key, secret, writer);
     if let Err(fault) = &answer {
         tell(console, files, fault);
@@ -92,10 +92,10 @@ where
 }
 
 // Writes that the value of an option isn't a root, and returns the exit status.
-fn refuse_root<T: Eprint>(console: &T, word: &str) -> ExitCode
+fn refuse_root<T: Eprint>(console: &T, option_name: &str) -> ExitCode
     ensures { exit_status_in result ≡ 2 }
 {
-    let _ = eprintln!(console; "residency: --{word}: not 64 small hexadecimal digits");
+    let _ = eprintln!(console; "residency: --{option_name}: not 64 small hexadecimal digits");
     ExitCode::from(2)
 }
 
@@ -119,13 +119,14 @@ fn outcome_of(digits: Option<&str>) -> Option<Option<[u8; 32]>>
 fn check_input<R: Read, W: Write, T: Eprint, H: RandomSource>(
     rt: &H,
     alloc: Global,
-    lists: &[u8; 32],
-    outcome: Option<&[u8; 32]>,
+    lists_root: &[u8; 32],
+    result_root: Option<&[u8; 32]>,
     reader: &mut R,
     writer: &mut W,
     console: &T,
 ) -> ExitCode
-    ensures { EndsServed (AnswersCheck lists.now (option_map (λ root. root.now) outcome.entry)
+    ensures { EndsServed (AnswersCheck lists_root.now
+        (option_map (λ root. root.now) result_root.entry)
         (R.remaining reader.old) (W.contents writer.old) (W.contents writer.new)) receipt_status_of
         (W.contents writer.old) (W.contents writer.new) (exit_status_in result) }
 {
@@ -133,7 +134,14 @@ fn check_input<R: Read, W: Write, T: Eprint, H: RandomSource>(
         Ok(receipt) => receipt,
         Err(unread) => return refuse_unread(console, &unread),
     };
-    let answer = serve_receipt(rt, alloc, receipt.as_slice(), lists, outcome, writer);
+    let answer = serve_receipt(
+        rt,
+        alloc,
+        receipt.as_slice(),
+        lists_root,
+        result_root,
+        writer,
+    );
     if let Err(fault) = &answer {
         let _ = eprintln!(console; "residency: {fault}");
     }
@@ -153,13 +161,21 @@ fn check_roots<R: Read, W: Write, T: Eprint, H: RandomSource>(
         (exit_status_in result) ⊎ EndsChecked roots.now (R.remaining reader.old)
         (W.contents writer.old) (W.contents writer.new) (exit_status_in result) }
 {
-    let Some(lists) = digest_of(roots.lists.as_bytes()) else {
+    let Some(lists_root) = digest_of(roots.lists.as_bytes()) else {
         return refuse_root(console, "lists");
     };
-    let Some(outcome) = outcome_of(roots.outcome) else {
+    let Some(result_root) = outcome_of(roots.outcome) else {
         return refuse_root(console, "result");
     };
-    check_input(rt, alloc, &lists, outcome.as_ref(), reader, writer, console)
+    check_input(
+        rt,
+        alloc,
+        &lists_root,
+        result_root.as_ref(),
+        reader,
+        writer,
+        console,
+    )
 }
 
 /// Seals a docket, checks a receipt or compares receipts, as the words order, and returns the exit status. The
@@ -193,7 +209,7 @@ where
             seal_files(rt, alloc, wanted, &files, reader, writer, console)
         }
         Ok(Order::Check(roots)) => check_roots(rt, alloc, &roots, reader, writer, console),
-        Ok(Order::Pair(rows, two)) => compare_pair(rt, alloc, &rows, &two, writer, console),
+        Ok(Order::Pair(rows, paths)) => compare_pair(rt, alloc, &rows, &paths, writer, console),
         Ok(Order::Pairs(rows, directory)) => {
             compare_pairs(rt, alloc, &rows, directory, writer, console)
         }

@@ -4,7 +4,7 @@ ghost use Rattle.audit_files.specs.Answer.{IsReadingFault};
 ghost use Rattle.docket.specs.Parts.{AreGiven, IsInFilesWithLists, rows_of_all};
 ghost use Rattle.seal_text.specs.Serving.{IsCaseIn, IsCaseFault};
 
-use audit_files::{FilesFault, told};
+use audit_files::{FilesFault, files_fault};
 use docket::{Docket, ProgrammeLists, read_parts_with_lists};
 use match_model::{Limits, WrittenLists};
 use reasons_text::{Case, WhyFault};
@@ -19,15 +19,15 @@ pub(crate) fn read_lists<H: RandomSource>(
     docket: &[u8],
     sheet: &[u8],
 ) -> Result<(Docket, WrittenLists, ProgrammeLists), FilesFault>
-    ensures read { IfOk result (λ read.
-        IsInFilesWithLists Limits.National docket.now sheet.now [] read.0 read.1) }
-    ensures given { IfOk result (λ read.
-        AreGiven (rows_of_all docket.now sheet.now []) read.0 read.2) }
+    ensures read { IfOk result (λ parts.
+        IsInFilesWithLists Limits.National docket.now sheet.now [] parts.0 parts.1) }
+    ensures given { IfOk result (λ parts.
+        AreGiven (rows_of_all docket.now sheet.now []) parts.0 parts.2) }
     ensures fault { IfErr result (IsReadingFault docket.now sheet.now []) }
 {
     match read_parts_with_lists(rt, alloc, Limits::National, docket, sheet, &[]) {
-        Ok(read) => Ok(read),
-        Err(file_fault) => Err(told(file_fault)),
+        Ok(parts) => Ok(parts),
+        Err(file_fault) => Err(files_fault(file_fault)),
     }
 }
 
@@ -38,13 +38,13 @@ pub(crate) fn read_case<H: RandomSource>(
     docket: &[u8],
     sheet: &[u8],
 ) -> Result<(Case, ProgrammeLists), FilesFault>
-    ensures case { IfOk result (λ read. IsCaseIn docket.now sheet.now read.0) }
-    ensures given { IfOk result (λ read.
-        AreGiven (rows_of_all docket.now sheet.now []) read.0.docket read.1) }
+    ensures case { IfOk result (λ parts. IsCaseIn docket.now sheet.now parts.0) }
+    ensures given { IfOk result (λ parts.
+        AreGiven (rows_of_all docket.now sheet.now []) parts.0.docket parts.1) }
     ensures fault { IfErr result (IsCaseFault docket.now sheet.now) }
 {
     let (docket, lists, given_lists) = match read_lists(rt, alloc, docket, sheet) {
-        Ok(read) => read,
+        Ok(parts) => parts,
         Err(fault) => return Err(fault),
     };
     match Case::of_docket(alloc, docket, lists, true) {

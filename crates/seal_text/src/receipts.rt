@@ -7,7 +7,7 @@ ghost use Rattle.seal_text.specs.declared.leaves.Section.TheVariants.{Outcome};
 ghost use Rattle.seal_text.specs.Grown.{AreTrees, IsGrownAs, lists_in, member_count, results_in};
 
 use crate::grow::put_row;
-use crate::grown::Grown;
+use crate::grown::TextTree;
 use docket::Docket;
 use match_model::{ProgrammeNo, ResidentNo};
 use std::alloc::{AllocError, Global};
@@ -16,9 +16,9 @@ use std::alloc::{AllocError, Global};
 #[derive(Drop)]
 pub(crate) struct Trees {
     /// The tree of the lists.
-    pub(crate) lists: Grown,
+    pub(crate) lists: TextTree,
     /// The tree of the result, if there is one.
-    pub(crate) outcome: Option<Grown>,
+    pub(crate) outcome: Option<TextTree>,
 }
 
 impl Trees {
@@ -28,16 +28,16 @@ impl Trees {
         alloc: Global,
         text: &mut Vec<u8>,
         secret: &[u8; 32],
-        index: usize,
+        leaf_index: usize,
     ) -> Result<(), AllocError>
         requires outcome { IfSome self.now.outcome
             (IsGrownAs secret.now Outcome (length self.now.lists.texts.items)) }
-        requires index { index < length self.now.lists.texts.items }
+        requires index { leaf_index < length self.now.lists.texts.items }
         ensures { OnOk result
-            (Grows text.old text.new (result_text_if secret.now (results_in self.now) index)) }
+            (Grows text.old text.new (result_text_if secret.now (results_in self.now) leaf_index)) }
     {
         match &self.outcome {
-            Some(outcome) => outcome.put_part(alloc, text, secret, index),
+            Some(outcome) => outcome.put_part(alloc, text, secret, leaf_index),
             None => Ok(()),
         }
     }
@@ -48,19 +48,20 @@ impl Trees {
         alloc: Global,
         text: &mut Vec<u8>,
         secret: &[u8; 32],
-        kind: &[u8],
+        side_letter: &[u8],
         name: &[u8],
-        index: usize,
+        leaf_index: usize,
     ) -> Result<(), AllocError>
         requires trees { AreTrees secret.now (length self.now.lists.texts.items) self.now }
-        requires index { index < length self.now.lists.texts.items }
-        ensures { OnOk result (Grows text.old text.new (receipt_text secret.now kind.now name.now
-            (lists_in self.now) (results_in self.now) index)) }
+        requires index { leaf_index < length self.now.lists.texts.items }
+        ensures { OnOk result (Grows text.old text.new
+            (receipt_text secret.now side_letter.now name.now
+            (lists_in self.now) (results_in self.now) leaf_index)) }
     {
-        put_row(alloc, text, &[b"member", kind, name])?;
-        put_row(alloc, text, &[b"receipt", b"2", kind, name])?;
-        self.lists.put_part(alloc, text, secret, index)?;
-        self.put_outcome(alloc, text, secret, index)
+        put_row(alloc, text, &[b"member", side_letter, name])?;
+        put_row(alloc, text, &[b"receipt", b"2", side_letter, name])?;
+        self.lists.put_part(alloc, text, secret, leaf_index)?;
+        self.put_outcome(alloc, text, secret, leaf_index)
     }
 
     // Adds the receipts of the programmes.
@@ -98,10 +99,17 @@ impl Trees {
             (resident_receipt secret.now docket.now (lists_in self.now) (results_in self.now))
             (range_with_len 0 (length docket.now.instance.resident_lists)))) }
     {
-        let programmes = docket.instance().programmes() as usize;
+        let programme_count = docket.instance().programmes() as usize;
         for r in 0..docket.instance().residents() {
             let name = docket.resident_name(ResidentNo(r)).as_bytes();
-            self.put_receipt(alloc, text, secret, b"R", name, programmes + r as usize)?;
+            self.put_receipt(
+                alloc,
+                text,
+                secret,
+                b"R",
+                name,
+                programme_count + r as usize,
+            )?;
         }
         Ok(())
     }

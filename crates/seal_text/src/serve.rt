@@ -13,7 +13,7 @@ ghost use Rattle.seal_text.specs.Texts.{AreListsOf, AreResultTexts, HasSheet, Na
 ghost use Rattle.seal_text.specs.Texts as texts;
 
 use crate::fault::SealFault;
-use crate::grown::Grown;
+use crate::grown::TextTree;
 use crate::leaves::Section;
 use crate::reading::{read_case, read_lists};
 use crate::receipts::Trees;
@@ -38,20 +38,20 @@ pub enum Wanted {
 }
 
 // The tree of the result over these texts, if there are any.
-fn grown_if(
+fn tree_if(
     alloc: Global,
     secret: &[u8; 32],
     texts: Option<Vec<Vec<u8>>>,
-) -> Result<Option<Grown>, AllocError>
-    ensures grown { IfOk result (λ grown. (count : ℕ) → IfSome texts (λ texts.
-        length texts.items ≡ count) → IfSome grown (IsGrownAs secret.now Outcome count)) }
-    ensures texts { IfOk result (λ grown.
-        option_map texts_in grown ≡ option_map (λ texts. texts_of texts.items) texts) }
+) -> Result<Option<TextTree>, AllocError>
+    ensures grown { IfOk result (λ tree. (count : ℕ) → IfSome texts (λ texts.
+        length texts.items ≡ count) → IfSome tree (IsGrownAs secret.now Outcome count)) }
+    ensures texts { IfOk result (λ tree.
+        option_map texts_in tree ≡ option_map (λ texts. texts_of texts.items) texts) }
 {
     match texts {
         Some(texts) => {
-            let grown = Grown::new(alloc, secret, Section::Outcome, texts)?;
-            Ok(Some(grown))
+            let tree = TextTree::new(alloc, secret, Section::Outcome, texts)?;
+            Ok(Some(tree))
         }
         None => Ok(None),
     }
@@ -91,8 +91,8 @@ fn text_of(
     ensures { IfOk result (λ text. text.items ≡ serving.text_of wanted secret.now docket.now
         (texts_of lists.items) (option_map (λ texts. texts_of texts.items) outcome)) }
 {
-    let lists = Grown::new(alloc, secret, Section::Lists, lists)?;
-    let outcome = grown_if(alloc, secret, outcome)?;
+    let lists = TextTree::new(alloc, secret, Section::Lists, lists)?;
+    let outcome = tree_if(alloc, secret, outcome)?;
     let trees = Trees { lists, outcome };
     let mut text = Vec::new(alloc);
     put_wanted(alloc, &mut text, wanted, secret, docket, &trees)?;
@@ -127,16 +127,17 @@ fn text_of_docket(
     wanted: Wanted,
     secret: &[u8; 32],
     docket: &Docket,
-    written: &WrittenLists,
+    written_lists: &WrittenLists,
     given_lists: &ProgrammeLists,
     names: &RealNames,
 ) -> Result<Vec<u8>, AllocError>
-    requires { NameMembers docket.now given_lists.now written.now }
-    ensures { IfOk result (λ text. (draft : Draft) → AreListsOf draft given_lists.now written.now
+    requires { NameMembers docket.now given_lists.now written_lists.now }
+    ensures { IfOk result (λ text. (draft : Draft)
+        → AreListsOf draft given_lists.now written_lists.now
         → text.items ≡ serving.text_of wanted secret.now docket.now
         (texts.lists_texts docket.now draft names.now) None) }
 {
-    let lists = lists_texts(alloc, docket, given_lists, written, names)?;
+    let lists = lists_texts(alloc, docket, given_lists, written_lists, names)?;
     text_of(alloc, wanted, secret, docket, lists, None)
 }
 
@@ -173,15 +174,23 @@ fn early_text<H: RandomSource>(
         IsEarlyText wanted docket.now (option_copied key.entry) secret.now text.items) }
     ensures fault { IfErr result (IsUnmade wanted docket.now None (option_copied key.entry)) }
 {
-    let (read, written, given_lists) = match read_lists(rt, alloc, docket, &[]) {
-        Ok(read) => read,
+    let (read_docket, written_lists, given_lists) = match read_lists(rt, alloc, docket, &[]) {
+        Ok(parts) => parts,
         Err(fault) => return Err(SealFault::Files(fault)),
     };
-    let names = match names_of(rt, alloc, &read, key) {
+    let names = match names_of(rt, alloc, &read_docket, key) {
         Ok(names) => names,
         Err(fault) => return Err(fault),
     };
-    match text_of_docket(alloc, wanted, secret, &read, &written, &given_lists, &names) {
+    match text_of_docket(
+        alloc,
+        wanted,
+        secret,
+        &read_docket,
+        &written_lists,
+        &given_lists,
+        &names,
+    ) {
         Ok(text) => Ok(text),
         Err(_) => Err(SealFault::Files(FilesFault::Memory)),
     }
@@ -189,7 +198,7 @@ fn early_text<H: RandomSource>(
 
 // Whether the wanted text may be written for this case: roots always, and receipts only if the sheet is
 // stable.
-fn is_told(alloc: Global, wanted: Wanted, case: &Case) -> Result<bool, AllocError>
+fn is_allowed(alloc: Global, wanted: Wanted, case: &Case) -> Result<bool, AllocError>
     ensures { IfOk result (IsTold wanted case.now) }
 {
     if wanted == Wanted::Roots {
@@ -203,7 +212,7 @@ fn is_told(alloc: Global, wanted: Wanted, case: &Case) -> Result<bool, AllocErro
 
 // The roots or the receipts, as wanted, of a case, with the real names in a key, if there is one. Receipts are made
 // only if the sheet is stable.
-fn text_told<H: RandomSource>(
+fn allowed_text<H: RandomSource>(
     rt: &H,
     alloc: Global,
     wanted: Wanted,
@@ -223,7 +232,7 @@ fn text_told<H: RandomSource>(
         Ok(names) => names,
         Err(fault) => return Err(fault),
     };
-    match is_told(alloc, wanted, case) {
+    match is_allowed(alloc, wanted, case) {
         Ok(true) => {}
         Ok(false) => return Err(SealFault::Unstable),
         Err(_) => return Err(SealFault::Files(FilesFault::Memory)),
@@ -250,12 +259,12 @@ fn full_text<H: RandomSource>(
         (IsUnmade wanted docket.now (Some sheet.now) (option_copied key.entry)) }
 {
     let (case, given_lists) = match read_case(rt, alloc, docket, sheet) {
-        Ok(read) => read,
+        Ok(case_and_lists) => case_and_lists,
         Err(fault) => return Err(SealFault::Files(fault)),
     };
     // For the proof alone: the docket is whole.
-    let _inst = case.docket().instance();
-    text_told(rt, alloc, wanted, &case, &given_lists, key, secret)
+    let _instance = case.docket().instance();
+    allowed_text(rt, alloc, wanted, &case, &given_lists, key, secret)
 }
 
 // The roots or the receipts, as wanted, from the bytes of a docket and, if there is one, of its sheet.

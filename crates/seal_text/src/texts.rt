@@ -53,7 +53,7 @@ fn push_residents(
     ensures { OnOk result (Extends row.old row.new (map (resident_name docket.now) list.now)) }
 {
     // For the proof alone: the docket is whole.
-    let _inst = docket.instance();
+    let _instance = docket.instance();
     for k in 0..list.len() {
         push_field(row, docket.resident_name(list[k]).as_bytes())?;
     }
@@ -74,7 +74,7 @@ fn push_choices(
         (map (programme_name docket.now) (list_at lists.now.resident_lists resident))) }
 {
     // For the proof alone: the docket is whole.
-    let _inst = docket.instance();
+    let _instance = docket.instance();
     for k in 0..lists.listed_by_resident(resident) {
         let Some(programme) = lists.choice(resident, k) else {
             unreachable!("the list is so long");
@@ -85,7 +85,7 @@ fn push_choices(
 }
 
 // Adds the fields of another record to a record.
-fn push_all(row: &mut ByteRecord, fields: &ByteRecord) -> Result<(), AllocError>
+fn push_fields(row: &mut ByteRecord, fields: &ByteRecord) -> Result<(), AllocError>
     requires { partial_of row.old ≡ [] }
     ensures { OnOk result (Extends row.old row.new (fields_of fields.now)) }
 {
@@ -96,15 +96,20 @@ fn push_all(row: &mut ByteRecord, fields: &ByteRecord) -> Result<(), AllocError>
 }
 
 // Adds the `N` row with a member's real name, if the name is known.
-fn put_real(alloc: Global, text: &mut Vec<u8>, real: Option<&ByteRecord>) -> Result<(), AllocError>
+fn put_real_name(
+    alloc: Global,
+    text: &mut Vec<u8>,
+    real_name: Option<&ByteRecord>,
+) -> Result<(), AllocError>
     ensures { OnOk result (Grows text.old text.new
-        (line_if (name_record (option_map (λ real. fields_of real.now) real.entry)))) }
+        (line_if (name_record
+        (option_map (λ real_name. fields_of real_name.now) real_name.entry)))) }
 {
-    match real {
-        Some(real) => {
+    match real_name {
+        Some(real_name) => {
             let mut row = ByteRecord::new(alloc);
             push_field(&mut row, b"N")?;
-            push_all(&mut row, real)?;
+            push_fields(&mut row, real_name)?;
             put_line(text, &row)
         }
         None => Ok(()),
@@ -140,13 +145,14 @@ fn put_withdrawal_if(
     alloc: Global,
     text: &mut Vec<u8>,
     withdrawn: bool,
-    side: &[u8],
+    side_letter: &[u8],
     name: &[u8],
 ) -> Result<(), AllocError>
-    ensures { OnOk result (Grows text.old text.new (withdrawal_if withdrawn side.now name.now)) }
+    ensures { OnOk result
+        (Grows text.old text.new (withdrawal_if withdrawn side_letter.now name.now)) }
 {
     if withdrawn {
-        put_row(alloc, text, &[b"W", side, name])
+        put_row(alloc, text, &[b"W", side_letter, name])
     } else {
         Ok(())
     }
@@ -156,9 +162,9 @@ fn put_withdrawal_if(
 fn put_quota(alloc: Global, text: &mut Vec<u8>, name: &[u8], quota: u32) -> Result<(), AllocError>
     ensures { OnOk result (Grows text.old text.new (quota_row name.now quota)) }
 {
-    let mut room = itoa::Buffer::new();
-    let quota = room.format(quota).as_bytes();
-    put_row(alloc, text, &[b"Q", name, quota])
+    let mut number_buffer = itoa::Buffer::new();
+    let quota_digits = number_buffer.format(quota).as_bytes();
+    put_row(alloc, text, &[b"Q", name, quota_digits])
 }
 
 // The text of a programme's lists leaf: its `Q` row, its `P` record if it has one, its `W` row if it is withdrawn, and its `N`
@@ -189,7 +195,7 @@ fn programme_lists(
         given_lists.list_of(programme),
     )?;
     put_withdrawal_if(alloc, &mut text, withdrawn, b"P", name)?;
-    put_real(alloc, &mut text, names.programme(programme))?;
+    put_real_name(alloc, &mut text, names.programme(programme))?;
     Ok(text)
 }
 
@@ -214,7 +220,7 @@ fn resident_lists(
     push_choices(&mut row, docket, lists, resident)?;
     put_line(&mut text, &row)?;
     put_withdrawal_if(alloc, &mut text, withdrawn, b"R", name)?;
-    put_real(alloc, &mut text, names.resident(resident))?;
+    put_real_name(alloc, &mut text, names.resident(resident))?;
     Ok(text)
 }
 
@@ -294,10 +300,12 @@ fn put_filled(
         (Grows text.old text.new (programme_row docket.now (codes "F") programme filled)) }
 {
     let name = docket.programme_name(programme).as_bytes();
-    let (mut room, mut other) = (itoa::Buffer::new(), itoa::Buffer::new());
-    let filled = room.format(filled).as_bytes();
-    let quota = other.format(docket.instance().quota(programme)).as_bytes();
-    put_row(alloc, text, &[b"F", name, filled, quota])
+    let (mut filled_buffer, mut quota_buffer) = (itoa::Buffer::new(), itoa::Buffer::new());
+    let filled_digits = filled_buffer.format(filled).as_bytes();
+    let quota_digits = quota_buffer
+        .format(docket.instance().quota(programme))
+        .as_bytes();
+    put_row(alloc, text, &[b"F", name, filled_digits, quota_digits])
 }
 
 // The `F` row of each programme, as a text of its own.
@@ -411,8 +419,8 @@ fn write_resident_result<W: Write>(
     ensures { OnOk result (AppendsText
         (IsResidentResult case.now resident) (W.contents writer.old) (W.contents writer.new)) }
 {
-    let mut room = room_for_rows(alloc)?;
-    let mut rows = RowWriter::new(writer, &mut room);
+    let mut row_buffer = room_for_rows(alloc)?;
+    let mut rows = RowWriter::new(writer, &mut row_buffer);
     push_resident_result(alloc, &mut rows, case, resident)?;
     rows.send()?;
     Ok(())

@@ -6,4 +6,4 @@ loop-worker-init g c = workers_none g.W.Write.contents c.args.rows.now
 
 pub loop-worker-preserved : goal.loop-worker-preserved
 loop-worker-preserved g c =
-    workers_next g.W.Write.contents c.args.counts.now c.args.rows.now c.loop-worker.rows c.push_worker.new.rows c.loop-worker.worker c.loop-worker-test.true c.loop-worker.invariant c.in_ok-push_worker.ensures
+    workers_next g.W.Write.contents c.args.event_counts.now c.args.rows.now c.loop-worker.rows c.push_worker.new.rows c.loop-worker.worker c.loop-worker-test.true c.loop-worker.invariant c.in_ok-push_worker.ensures

@@ -6,4 +6,4 @@ use Rattle.audit_text.proofs.report.push_pairs.Given as goal
 
 abbrev pub invariant-loop-resident : goal.invariant-loop-resident
 invariant-loop-resident g l =
-    Adds g.W.Write.contents l.fn.rows l.rows (flat_map (pair_row l.docket l.kind) (take l.resident-index l.pairs))
+    Adds g.W.Write.contents l.fn.rows l.rows (flat_map (pair_row l.docket l.letter) (take l.resident-index l.pairs))

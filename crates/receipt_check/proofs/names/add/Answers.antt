@@ -4,7 +4,7 @@ use Rattle.receipt_check.proofs.names.add.Goals as goal
 
 pub returns : goal.returns
 returns c = elim c.in_ok-number.ensures.joined [
-  | inl same ↦ absurd (not_there c.args.seen.now c.in_ok-number.field-0 c.args.name.now c.requires.fresh
+  | inl same ↦ absurd (not_there c.args.seen_names.now c.in_ok-number.field-0 c.args.name.now c.requires.fresh
       (subst (λ texts. slice_get texts c.in_ok-number.field-0 ≡ Some c.args.name.now) same c.in_ok-number.ensures.number))
   | inr more ↦ more
 ]

@@ -12,7 +12,7 @@ returns-in-Some c =
     let names = fields_in c.args.names.now in
     let within : c.loop-k.k < length names = omega (arith, c.loop-k-test.true, length-map c.args.names.now (λ f. f.now)) in
     let found = rw (c.loop-k.invariant.0, c.field-name.ensures) at c.in-Some.ensures in
-    (c.loop-k-test.true, first_here _ c.loop-k.k (length names) (c.loop-k.k, c.in-Some.wrong) within c.loop-k.invariant.1 (ap (option_map (λ (w : Wrong). (c.loop-k.k, w))) (sym found)))
+    (c.loop-k-test.true, first_here _ c.loop-k.k (length names) (c.loop-k.k, c.in-Some.defect) within c.loop-k.invariant.1 (ap (option_map (λ (w : Wrong). (c.loop-k.k, w))) (sym found)))
 
 pub returns : goal.returns
 unfolding wrong_name

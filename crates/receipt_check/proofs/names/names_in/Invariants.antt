@@ -6,5 +6,5 @@ use Rattle.receipt_check.proofs.names.names_in.Given as goal
 
 abbrev pub invariant-loop-k : goal.invariant-loop-k
 invariant-loop-k l =
-    (l.seen ≡ take l.k (fields_in l.names))
-    × (first_in (name_at (option_map (λ (on : Bor (List (List ℕ))). on.now) l.on) (fields_in l.names)) l.k ≡ None)
+    (l.seen_names ≡ take l.k (fields_in l.names))
+    × (first_in (name_at (option_map (λ (on : Bor (List (List ℕ))). on.now) l.list) (fields_in l.names)) l.k ≡ None)

@@ -8,11 +8,11 @@ use Rattle.receipt_check.proofs.pair_words.put_agreed.Goals as goal
 
 pub returns : goal.returns
 returns c =
-    let fields = fields_in c.args.fields.now in
+    let fields = fields_in c.args.answer.now in
     let withdrawn : says fields (codes "withdrawn") ≡ false = sym c.says.ensures ∙ c.if-says.false in
     let unranked : says fields (codes "unranked") ≡ false = sym c.says-2.ensures ∙ c.if-says-2.false in
     let matched : says fields (codes "matched") ≡ false = sym c.says-3.ensures ∙ c.if-says-3.false in
     let better : says fields (codes "better") ≡ false = sym c.says-4.ensures ∙ c.if-says-4.false in
-    on_ok_weaker c.put_full.result (λ h. rw (withdrawn, unranked, matched, better)
-    (grows_three c.args.text.now c.put_all-2.new.text c.put_rank.new.text c.put_full.new.text _ _ _
-    c.in_ok-put_all.ensures (rw c.field.ensures at c.in_ok-put_rank.ensures) h)) c.put_full.ensures
+    on_ok_weaker c.put_full_places.result (λ h. rw (withdrawn, unranked, matched, better)
+    (grows_three c.args.text.now c.put_pieces-2.new.text c.put_rank.new.text c.put_full_places.new.text _ _ _
+    c.in_ok-put_pieces.ensures (rw c.field.ensures at c.in_ok-put_rank.ensures) h)) c.put_full_places.ensures

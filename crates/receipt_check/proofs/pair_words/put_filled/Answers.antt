@@ -6,6 +6,6 @@ use Rattle.receipt_check.proofs.pair_words.put_filled.Goals as goal
 
 pub returns : goal.returns
 returns c =
-    on_ok_weaker c.put_all-2.result (λ h. rw (length-map c.args.programme.now.shown.after.now (λ row. fields_in row.items))
-    (grows_three c.args.text.now c.put_all.new.text c.put_number.new.text c.put_all-2.new.text _ _ _
-    c.in_ok-put_all.ensures c.in_ok-put_number.ensures h)) c.put_all-2.ensures
+    on_ok_weaker c.put_pieces-2.result (λ h. rw (length-map c.args.programme.now.contents.detail_rows.now (λ row. fields_in row.items))
+    (grows_three c.args.text.now c.put_pieces.new.text c.put_number.new.text c.put_pieces-2.new.text _ _ _
+    c.in_ok-put_pieces.ensures c.in_ok-put_number.ensures h)) c.put_pieces-2.ensures

@@ -11,9 +11,9 @@ loop-k-init c = grows_none c.args.text.now
 
 pub loop-k-preserved : goal.loop-k-preserved
 loop-k-preserved c =
-    grows_next (λ k. line (reason_row (content c.args.shown.now) k)) c.args.text.now c.loop-k.text c.put_reason.new.text c.loop-k.k c.loop-k.invariant c.in_ok-put_reason.ensures
+    grows_next (λ k. line (reason_row (content c.args.contents.now) k)) c.args.text.now c.loop-k.text c.put_reason.new.text c.loop-k.k c.loop-k.invariant c.in_ok-put_reason.ensures
 
 pub returns : goal.returns
 returns c =
-    let end : c.loop-k.k ≡ length c.args.shown.now.list.now = omega (arith, c.loop-k-test.false, c.loop-k.auto.k-end) in
-    rw (lines_map (reason_row (content c.args.shown.now)) (range_with_len 0 (length c.args.shown.now.list.now))) (rw end at c.loop-k.invariant)
+    let end : c.loop-k.k ≡ length c.args.contents.now.list.now = omega (arith, c.loop-k-test.false, c.loop-k.auto.k-end) in
+    rw (lines_map (reason_row (content c.args.contents.now)) (range_with_len 0 (length c.args.contents.now.list.now))) (rw end at c.loop-k.invariant)

@@ -4,4 +4,4 @@ use Rattle.receipt_check.specs.Shown.{content}
 use Rattle.receipt_check.proofs.reasons.wrong_reason.Given as goal
 
 abbrev pub invariant-loop-k : goal.invariant-loop-k
-invariant-loop-k l = first_in (reason_at (content l.shown) l.own) l.k ≡ None
+invariant-loop-k l = first_in (reason_at (content l.contents) l.own_choice) l.k ≡ None

@@ -14,19 +14,19 @@ loop-k-init c = (refl, record {})
 
 pub loop-k-preserved : goal.loop-k-preserved
 loop-k-preserved c =
-    let list = fields_in c.args.shown.now.list.now in
-    let names = members (content c.args.shown.now) in
+    let list = fields_in c.args.contents.now.list.now in
+    let names = members (content c.args.contents.now) in
     let k = c.loop-k.k in
-    let name = c.cell.ensures ∙ sym (member_at (rows_in c.args.shown.now.after.now) k) in
+    let name = c.cell.ensures ∙ sym (member_at (rows_in c.args.contents.now.detail_rows.now) k) in
     let place = c.place_of.ensures.place ∙ ap (number_in list) name in (
-      c.later-last.ensures ∙ ap₂ later c.loop-k.invariant.0 place ∙ sym (last_next list names k),
-      rw c.later-last.ensures (later_small c.loop-k.last c.place_of.result c.loop-k.invariant.1 c.place_of.ensures.within),
+      c.later-last_member_place.ensures ∙ ap₂ later c.loop-k.invariant.0 place ∙ sym (last_next list names k),
+      rw c.later-last_member_place.ensures (later_small c.loop-k.last_member_place c.place_of.result c.loop-k.invariant.1 c.place_of.ensures.within),
     )
 
 pub returns-clause-last : goal.returns-clause-last
 returns-clause-last c =
-    let end : c.loop-k.k ≡ length (members (content c.args.shown.now)) =
-    omega (arith, c.loop-k-test.false, c.loop-k.auto.k-end, length-map (rows_in c.args.shown.now.after.now) (λ row. text_at row 1), length-map c.args.shown.now.after.now (λ row. fields_in row.items)) in
+    let end : c.loop-k.k ≡ length (members (content c.args.contents.now)) =
+    omega (arith, c.loop-k-test.false, c.loop-k.auto.k-end, length-map (rows_in c.args.contents.now.detail_rows.now) (λ row. text_at row 1), length-map c.args.contents.now.detail_rows.now (λ row. fields_in row.items)) in
     rw end at c.loop-k.invariant.0
 
 pub returns-clause-within : goal.returns-clause-within

@@ -5,4 +5,4 @@ use Rattle.receipt_check.specs.Shown.{content, fields_in}
 use Rattle.receipt_check.proofs.side.last_place.Given as goal
 
 abbrev pub invariant-loop-k : goal.invariant-loop-k
-invariant-loop-k l = (l.last ≡ last_within (fields_in l.shown.list.now) (members (content l.shown)) l.k) × IfSome l.last (λ k. k < 2 ^ 63)
+invariant-loop-k l = (l.last_member_place ≡ last_within (fields_in l.contents.list.now) (members (content l.contents)) l.k) × IfSome l.last_member_place (λ k. k < 2 ^ 63)

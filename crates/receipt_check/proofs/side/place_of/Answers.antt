@@ -7,7 +7,7 @@ use Rattle.receipt_check.proofs.side.place_of.Goals as goal
 
 pub returns-in_default-clause-place : goal.returns-in_default-clause-place
 returns-in_default-clause-place c =
-    let list = fields_in c.args.shown.now.list.now in
+    let list = fields_in c.args.contents.now.list.now in
     let found : number_in list c.args.name.now ≡ Some c.in-Some.place = ap (λ names. number_in names c.args.name.now) (sym c.requires) ∙ sym c.find.ensures ∙ c.in-Some.is in
     let below = place_below list c.args.name.now c.in-Some.place found in
-    absurd (omega (arith, below, c.if-place-shown.false, length-map c.args.shown.now.list.now (λ field. field.now)))
+    absurd (omega (arith, below, c.if-place-contents.false, length-map c.args.contents.now.list.now (λ field. field.now)))

@@ -9,9 +9,9 @@ loop-k-init c = grows_none c.args.text.now
 
 pub loop-k-preserved : goal.loop-k-preserved
 loop-k-preserved c =
-    grows_next (reason_text (content c.args.shown.now)) c.args.text.now c.loop-k.text c.put_reason.new.text c.loop-k.k c.loop-k.invariant c.in_ok-put_reason.ensures
+    grows_next (reason_text (content c.args.contents.now)) c.args.text.now c.loop-k.text c.put_reason.new.text c.loop-k.k c.loop-k.invariant c.in_ok-put_reason.ensures
 
 pub returns : goal.returns
 returns c =
-    let end : c.loop-k.k ≡ length c.args.shown.now.list.now = omega (arith, c.loop-k-test.false, c.loop-k.auto.k-end) in
+    let end : c.loop-k.k ≡ length c.args.contents.now.list.now = omega (arith, c.loop-k-test.false, c.loop-k.auto.k-end) in
     rw end at c.loop-k.invariant

@@ -17,7 +17,7 @@ programme_name-requires c =
     let within : c.loop-k.k < length list = omega (arith, c.loop-k-test.true, c.listed_by_resident-k-end.ensures) in
     let below = one_below _ list c.loop-k.k c.requires.list within in
     let here = chosen list c.loop-k.k c.in-Some.programme (sym c.choice.ensures ∙ c.in-Some.is) in
-    omega (arith, below, here, c.instance-inst.ensures.whole.programmes)
+    omega (arith, below, here, c.instance-instance.ensures.whole.programmes)
 
 pub loop-k-preserved : goal.loop-k-preserved
 loop-k-preserved c =

@@ -11,7 +11,7 @@ pub resident_name-requires : goal.resident_name-requires
 resident_name-requires c =
     let below = one_below _ c.args.list.now c.loop-k.k c.requires.list c.loop-k-test.true in
     let here = item_there c.args.list.now c.loop-k.k c.index-list-k.result c.loop-k-test.true c.index-list-k.is in
-    omega (arith, below, here, c.instance-inst.ensures.whole.residents)
+    omega (arith, below, here, c.instance-instance.ensures.whole.residents)
 
 pub push_field-requires : goal.push_field-requires
 push_field-requires c = c.loop-k.invariant.whole

@@ -12,6 +12,6 @@ pub loop-r-preserved : goal.loop-r-preserved
 loop-r-preserved c =
     let self = c.args.self.now in
     let name = c.as_bytes-name.ensures.value ∙ c.resident_name.ensures in
-    let first = rw c.instance.ensures.instance at c.programmes-programmes.ensures.count in
+    let first = rw c.instance.ensures.instance at c.programmes-programme_count.ensures.count in
     grows_next (resident_receipt c.args.secret.now c.args.docket.now (lists_in self) (results_in self)) c.args.text.now c.loop-r.text c.put_receipt.new.text c.loop-r.r c.loop-r.invariant
     (rw (name, first) at c.in_ok-put_receipt.ensures)

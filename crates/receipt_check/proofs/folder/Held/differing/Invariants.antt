@@ -1,7 +1,0 @@
-use Rattle.std.proofs.Common.{◌≡◌, filter, take}
-use Rattle.receipt_check.specs.Folder.{differs}
-use Rattle.receipt_check.specs.Held.{receipts_of}
-use Rattle.receipt_check.proofs.folder.Held.differing.Given as goal
-
-abbrev pub invariant-loop-k : goal.invariant-loop-k
-invariant-loop-k l = l.found.items ≡ filter (differs (receipts_of l.self)) (take l.k l.pairs)

@@ -1,8 +1,0 @@
-use Rattle.std.proofs.Common.{◌≡◌, ◌++◌}
-use Rattle.std.specs.List.{flat_map, range_with_len}
-use Rattle.receipt_check.specs.Folder.{member_pair}
-use Rattle.receipt_check.specs.Held.{receipts_of}
-use Rattle.receipt_check.proofs.folder.Held.push_members.Given as goal
-
-abbrev pub invariant-loop-k : goal.invariant-loop-k
-invariant-loop-k l = l.pairs.items ≡ l.fn.pairs.items ++ flat_map (member_pair (receipts_of l.self) l.p) (range_with_len 0 l.k)
