@@ -224,7 +224,7 @@ def of_parts(top: str) -> List[Goal]:
     audits = [int(it["rattle"]) / 1e9 for it in read(top, "audit/figures.csv").rows]
     return [
         Goal("instructions of `./audit` with docket and sheet, compared with a match, for the five dockets of *What the promises cost*", [int(it["audit"]) / int(it["program"]) for it in counts], ".2f times", 1.3),
-        Goal("the longest audit or replay at the limits", [max(audits)], ".2f s", 5),
+        Goal("wall time of the longest audit or replay at the limits", [max(audits)], ".2f s", 5),
         Goal("wall time of an audit of the result of 10 lists of 20,000 and of 2,000 lists of 100, compared with Rust", part_ratios(top, "audit", "settled:audit"), ".2f times", 1.5),
         Goal("processor time of a match of the longest lists, with short names and with names of 32 bytes", [float(it["processor"]) for it in lists], ".1f s", 5),
         Goal("memory of a match of these lists", [float(it["mb"]) for it in lists], ".0f MB", 512),
