@@ -15,7 +15,7 @@ DOCKETS = {
     "everybody": "10 lists of 20,000, 200,000 pairs",
     "market-200000": "market of 2,000 and 20,000, 200,000 pairs",
     "reversed": "lists against one another",
-    "ladder": "2,000 programmes of one place, 100 residents who like the later ones better",
+    "ladder": "2,000 programmes of one place, 100 residents who like the later programmes better",
     "chain": "one displacement after another, after 18,000 residents who list nobody",
 }
 # How our program ran, by the name of its runs.
