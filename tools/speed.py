@@ -15,7 +15,7 @@ DOCKETS = {
     "everybody": "10 lists of 20,000, 200,000 pairs",
     "market-200000": "market of 2,000 and 20,000, 200,000 pairs",
     "reversed": "lists against one another",
-    "ladder": "2,000 programmes of one place, 100 residents who like the later ones better",
+    "ladder": "2,000 programmes of one place, 100 residents who like the later programmes better",
     "chain": "one displacement after another, after 18,000 residents who list nobody",
 }
 # How our program ran, by the name of its runs.
@@ -210,7 +210,7 @@ def of_matches(top: str) -> List[Goal]:
              [it.ratio("ladder", run, "usual") for run in two], ".2f times", 1.7),
         Goal("a match where each offer displaces another one, compared with a match at the limits; full, narrow mailboxes",
              [it.median("chain", run) / it.median(MARKET, run) for run in two], ".2f times", 2),
-        Goal("growth of the time each time the pairs double, from 25,000 to 200,000; full, narrow mailboxes", growths, ".1f times", 2.3),
+        Goal("growth of the processor time at each doubling of the pairs from 25,000 to 200,000; full, then narrow mailboxes", growths, ".1f times", 2.3),
         Goal("processor time of 2, 4 and 8 workers, compared with one, on 10 lists of 20,000 and at the limits", workers, ".2f times", 1.2),
         Goal("wall time of 2 workers, compared with one, on 10 lists of 20,000 and at the limits", [it.ratio(docket, "full", "workers-1", "wall") for docket in ("everybody", MARKET)], ".2f times", 1),
         Goal("processor time with the memory settings, compared with none", [it.ratio(MARKET, "full", "bare")], ".2f times"),
@@ -224,14 +224,14 @@ def of_parts(top: str) -> List[Goal]:
     audits = [int(it["rattle"]) / 1e9 for it in read(top, "audit/figures.csv").rows]
     return [
         Goal("instructions of `./audit` with docket and sheet, compared with a match, for the five dockets of *What the promises cost*", [int(it["audit"]) / int(it["program"]) for it in counts], ".2f times", 1.3),
-        Goal("the longest audit or replay at the limits", [max(audits)], ".2f s", 5),
-        Goal("audit of the result of 10 lists of 20,000 and of 2,000 lists of 100, compared with Rust", part_ratios(top, "audit", "settled:audit"), ".2f times", 1.5),
-        Goal("processor time of the longest lists, with short names and with names of 32 bytes", [float(it["processor"]) for it in lists], ".1f s", 5),
-        Goal("memory for these lists", [float(it["mb"]) for it in lists], ".0f MB", 512),
-        Goal("reading many records, long lists and many events, compared with Rust", part_ratios(top, "docket", ":time"), ".2f times", 1.3),
-        Goal("memory of reading these three, compared with Rust", part_ratios(top, "docket", ":memory"), ".2f times", 3),
-        Goal("an entry into the ledger, with 10 lists of 20,000 and with 2,000 lists of 100, compared with Rust", part_ratios(top, "ledger"), ".2f times", 1.5),
-        Goal("messages through a mailbox, in the five cases of *Parts of a match*, compared with Rust", part_ratios(top, "mailbox"), ".2f times", 2),
+        Goal("wall time of the longest audit or replay at the limits", [max(audits)], ".2f s", 5),
+        Goal("wall time of an audit of the result of 10 lists of 20,000 and of 2,000 lists of 100, compared with Rust", part_ratios(top, "audit", "settled:audit"), ".2f times", 1.5),
+        Goal("processor time of a match of the longest lists, with short names and with names of 32 bytes", [float(it["processor"]) for it in lists], ".1f s", 5),
+        Goal("memory of a match of these lists", [float(it["mb"]) for it in lists], ".0f MB", 512),
+        Goal("processor time of reading many records, long lists and many events, compared with Rust", part_ratios(top, "docket", ":time"), ".2f times", 1.3),
+        Goal("memory of reading many records, long lists and many events, compared with Rust", part_ratios(top, "docket", ":memory"), ".2f times", 3),
+        Goal("wall time of an entry into the ledger, with 10 lists of 20,000 and with 2,000 lists of 100, compared with Rust", part_ratios(top, "ledger"), ".2f times", 1.5),
+        Goal("wall time of messages through a mailbox, in the five cases of *Parts of a match*, compared with Rust", part_ratios(top, "mailbox"), ".2f times", 2),
     ]
 
 

@@ -8,7 +8,8 @@ use Rattle.desk_scheduler.specs.declared.side.Place.TheVariants.{Idle, Listed, I
 use Rattle.desk_scheduler.specs.Desks.{Desks, place_of, moved, listing, is_listed, taken}
 use Rattle.desk_scheduler.specs.Schedule.{Schedule}
 
--- the schedule after this change to desk d, given whether d is a resident's and else whether it is a programme's
+-- the schedule after this change to desk d; the first flag says that d is a resident's desk, the second that d is a
+-- programme's desk
 abbrev pub at_side : (Desks → ℕ → Desks) → Schedule → ℕ → Bool → Bool → Schedule
 at_side change s d true b = record { residents = change s.residents d; programmes = s.programmes; waiting = s.waiting; ended = s.ended }
 at_side change s d false true = record { residents = s.residents; programmes = change s.programmes (d - length s.residents.places); waiting = s.waiting; ended = s.ended }
@@ -34,8 +35,8 @@ next_from s false None None = (Nothing, s)
 abbrev pub next_of : Schedule → Next × Schedule
 next_of s = next_from s s.ended (taken s.residents) (taken s.programmes)
 
--- the state of desk d, given whether d is a resident's and else whether it is a programme's; a number past the last
--- desk counts as held
+-- the state of desk d; the first flag says that d is a resident's desk, the second that d is a programme's desk; a
+-- number past the last desk counts as held
 abbrev pub place_of_side : Schedule → ℕ → Bool → Bool → Place
 place_of_side s d true b = place_of s.residents d
 place_of_side s d false true = place_of s.programmes (d - length s.residents.places)

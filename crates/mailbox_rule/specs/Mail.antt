@@ -6,7 +6,7 @@ use Rattle.crossbeam_channel.specs.declared.flavors.array.Key.{Key}
 use Rattle.crossbeam_channel.specs.Claims.{Pass}
 use Rattle.mailbox_rule.specs.declared.rule.Known.{Known}
 
--- what makes a mailbox this one: its table, and its keys
+-- the identity of a mailbox: its table, and its keys
 pub record Mailbox (M : Type 0) : Type 0 where
   pub table : TableId
   pub keys : Badge (Key M)

@@ -139,9 +139,9 @@ is_bare word fields =
     (length fields == 4) && bytes_eq (text_at fields 0) word && (length (text_at fields 1) == 0)
     && (length (text_at fields 2) == 0) && (length (text_at fields 3) == 0)
 
--- Whether the places of the programme went to residents whom it ranks before this one. If it has places, the last of
--- these residents ranks before this one, at a rank not above the number of places. If it has none, there is no last
--- one.
+-- Whether the places of the programme can have gone to residents whom it ranks before this one. If it has places, the
+-- last of these residents ranks before this one, at a rank that is at least the number of places. If it has no places,
+-- there is no last rank.
 abbrev pub is_before : Option ℕ → List ℕ → Option ℕ → Option ℕ → Bool
 is_before (Some rank) digits (Some last) (Some quota) = nat_le 1 quota && nat_le quota last && nat_lt last rank
 is_before (Some rank) digits None (Some quota) = (length digits == 0) && (quota == 0) && nat_le 1 rank

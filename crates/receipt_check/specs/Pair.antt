@@ -62,7 +62,7 @@ in_file k fault = option_map (λ fault. (k, fault)) fault
 
 -- What a programme's receipt tells of its residents.
 
--- the later of two places on a list, or the only one that there is
+-- the later of two places on a list, or the only place if one of the two is none
 abbrev pub later : Option ℕ → Option ℕ → Option ℕ
 later None q = q
 later (Some p) None = Some p

@@ -45,7 +45,7 @@ pub record AnswersCheck (lists : List ℕ) (outcome : Option (List ℕ)) (input 
       (λ _. (receipt_fault lists outcome bytes ≡ None) × Appends old new (told_of outcome bytes))
       (λ fault. IsReceiptFault lists outcome bytes fault × (fault ≢ receipt.Write → new ≡ old))
 
--- the result's root, if its digits are given; none inside if the digits write no root
+-- the result's root, if its digits are given: `Some None` means that the digits write no root
 abbrev pub outcome_of : Roots → Option (Option (List ℕ))
 outcome_of roots = option_map (λ digits. digest_of digits.now) roots.outcome
 
