@@ -100,7 +100,7 @@ pub(crate) fn of_docket(fault: RecordsFault) -> DocketFault
 
 /// The fault with its record counted in its own file, which comes after `records_before` records of other
 /// files.
-pub(crate) fn there_is(records_before: u32, fault: RecordsFault) -> RecordsFault
+pub(crate) fn counted_in_file(records_before: u32, fault: RecordsFault) -> RecordsFault
     ensures { result ≡ spec.there_is records_before fault }
 {
     match fault {

@@ -222,28 +222,28 @@ fn withdraw_resident(
 fn rank_row(
     alloc: Global,
     lists: &Lists,
-    j: usize,
+    row_index: usize,
     programmes: &Members,
     residents: &Members,
     builder: &mut InstanceBuilder,
     programme_lists: &mut ProgrammeLists,
-    of_programme: &mut Vec<ResidentNo>,
-    of_resident: &mut Vec<ProgrammeNo>,
+    listed_by_programme: &mut Vec<ResidentNo>,
+    listed_by_resident: &mut Vec<ProgrammeNo>,
 ) -> Result<(), DocketFault>
-    requires { j < length lists.now.entries }
+    requires { row_index < length lists.now.entries }
     ensures ranked { OnOk result ((texts : Fields) (rows : List Fields) (k : ℕ) (entry : KeptEntry)
-        → slice_get lists.now.entries j ≡ Some entry
+        → slice_get lists.now.entries row_index ≡ Some entry
         → IsNext texts programmes.now residents.now builder.old rows k entry
         → IsRanked builder.new rows (take (k + 1) rows)) }
     ensures fault { (texts : Fields) (rows : List Fields) (k : ℕ) (entry : KeptEntry)
-        → slice_get lists.now.entries j ≡ Some entry
+        → slice_get lists.now.entries row_index ≡ Some entry
         → IsNext texts programmes.now residents.now builder.old rows k entry
         → Answers (ranking_fault rows (take k rows) (row_at rows k)) result }
     ensures limits { OnOk result (builder.new.limits ≡ builder.old.limits) }
     ensures given { OnOk result (programme_lists.old ≡ builder.old.programme_lists
         → programme_lists.new ≡ builder.new.programme_lists) }
 {
-    let row = lists.row(j);
+    let row = lists.row(row_index);
     match row.kind {
         ListKind::Ranking(Side::Programmes) => rank_residents(
             alloc,
@@ -252,10 +252,10 @@ fn rank_row(
             residents,
             builder,
             programme_lists,
-            of_programme,
+            listed_by_programme,
         ),
         ListKind::Ranking(Side::Residents) => {
-            rank_programmes(&row, programmes, residents, builder, of_resident)
+            rank_programmes(&row, programmes, residents, builder, listed_by_resident)
         }
         ListKind::Withdrawal(Side::Programmes) => { withdraw_programme(&row, programmes, builder) }
         ListKind::Withdrawal(Side::Residents) => { withdraw_resident(&row, residents, builder) }
@@ -281,8 +281,8 @@ fn rank(
     ensures given { OnOk result (programme_lists.old ≡ builder.old.programme_lists
         → programme_lists.new ≡ builder.new.programme_lists) }
 {
-    let mut of_programme = Vec::new(alloc);
-    let mut of_resident = Vec::new(alloc);
+    let mut listed_by_programme = Vec::new(alloc);
+    let mut listed_by_resident = Vec::new(alloc);
     for j in 0..lists.len() {
         rank_row(
             alloc,
@@ -292,8 +292,8 @@ fn rank(
             residents,
             builder,
             programme_lists,
-            &mut of_programme,
-            &mut of_resident,
+            &mut listed_by_programme,
+            &mut listed_by_resident,
         )?;
     }
     Ok(())
@@ -329,7 +329,7 @@ fn no_lists(
     keeps_lists: bool,
 ) -> Result<ProgrammeLists, AllocError>
     ensures { keeps_lists ≡ true
-        → IfOk result (λ given. given ≡ replicate (length programmes.now) None) }
+        → IfOk result (λ lists. lists ≡ replicate (length programmes.now) None) }
 {
     ProgrammeLists::none(alloc, if keeps_lists { programmes.len() } else { 0 })
 }
