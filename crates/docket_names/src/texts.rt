@@ -6,7 +6,9 @@ ghost use Rattle.docket_names.specs.NameKeys.{filled};
 ghost use Rattle.docket_names.specs.Texts.{number_in, StartsWith, IsJoined};
 ghost use Rattle.docket_names.specs.Words as words;
 
-use crate::guesses::{Guess, NEAR, find_short, make_room, number_at, place_of, set_guess};
+use crate::guesses::{
+    Guess, PLACES_OF_TEXT, find_short_text, make_room, number_at, place_of, set_guess,
+};
 use crate::name_key::{MAX_NAME, NameKey, short_word};
 use crate::words::is_name;
 use indexmap::IndexSet;
@@ -24,7 +26,7 @@ pub struct Texts {
     alloc: Global,
     seen: IndexSet<NameKey, RandomState>,
     // The number after the one found last, and whether the text found last came right after the one before it.
-    next: usize,
+    next_number: usize,
     in_order: bool,
     guesses: Vec<Guess>,
 }
@@ -49,7 +51,7 @@ impl Drop for Texts {
         let Texts {
             alloc: _,
             seen: _,
-            next: _,
+            next_number: _,
             in_order: _,
             guesses: _,
         } = self;
@@ -64,7 +66,7 @@ impl Texts {
         Texts {
             alloc,
             seen: IndexSet::with_hasher(alloc, keys),
-            next: 0,
+            next_number: 0,
             in_order: false,
             guesses: Vec::new(alloc),
         }
@@ -103,7 +105,7 @@ impl Texts {
     // Whether this text has this number. The text has at most eight bytes, and `word` is these bytes, filled up with
     // zeros, as a number.
     #[inline(always)]
-    fn is_short(&self, number: usize, text: &[u8], word: u64) -> bool
+    fn is_short_text(&self, number: usize, text: &[u8], word: u64) -> bool
         requires short { length text.now ≤ 8 }
         requires word { to_le_bytes w64 word ≡ take 8 (filled text.now) }
         ensures { result ≡ true → slice_get self.now number ≡ Some text.now }
@@ -128,17 +130,17 @@ impl Texts {
     // The number of this text, if a guess finds it. The text has at most eight bytes, and `word` is these bytes,
     // filled up with zeros, as a number.
     #[inline(always)]
-    fn guess_short(&self, text: &[u8], word: u64) -> Option<usize>
+    fn guess_short_text(&self, text: &[u8], word: u64) -> Option<usize>
         requires some { 0 < length text.now }
         requires short { length text.now ≤ 8 }
         requires word { to_le_bytes w64 word ≡ take 8 (filled text.now) }
         ensures { IfSome result (λ n. slice_get self.now n ≡ Some text.now) }
     {
-        let next = self.next;
-        if self.in_order && self.is_short(next, text, word) {
-            return Some(next);
+        let next_number = self.next_number;
+        if self.in_order && self.is_short_text(next_number, text, word) {
+            return Some(next_number);
         }
-        find_short(&self.guesses, text, word)
+        find_short_text(&self.guesses, text, word)
     }
 
     // The number of this text, if a guess finds the text.
@@ -146,13 +148,13 @@ impl Texts {
     fn guess_text(&self, text: &NameKey) -> Option<usize>
         ensures { IfSome result (λ n. slice_get self.now n ≡ Some text.now) }
     {
-        let next = self.next;
-        if self.in_order && self.is_text(next, text) {
-            return Some(next);
+        let next_number = self.next_number;
+        if self.in_order && self.is_text(next_number, text) {
+            return Some(next_number);
         }
         let word = text.word();
         let place = place_of(word, self.guesses.len());
-        for k in 0..NEAR {
+        for k in 0..PLACES_OF_TEXT {
             if let Some(number) = number_at(&self.guesses, place ^ k, word)
                 && self.is_text(number, text)
             {
@@ -168,7 +170,7 @@ impl Texts {
         ensures { IfSome result (λ n. slice_get self.now n ≡ Some text.now) }
     {
         match text.len() {
-            1..=8 => self.guess_short(text, short_word(text)),
+            1..=8 => self.guess_short_text(text, short_word(text)),
             9..=MAX_NAME => self.guess_text(&NameKey::new(text)),
             _ => None,
         }
@@ -179,8 +181,8 @@ impl Texts {
     fn note(&mut self, number: usize)
         ensures { self.new ≡ self.old }
     {
-        self.in_order = number == self.next;
-        self.next = number.saturating_add(1);
+        self.in_order = number == self.next_number;
+        self.next_number = number.saturating_add(1);
     }
 
     /// The number of this text, if a guess finds the text. A text that a guess finds has the form of a name.
