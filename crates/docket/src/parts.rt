@@ -85,10 +85,10 @@ fn parts_as<H: RandomSource>(
     journal: &[u8],
     keeps_lists: bool,
 ) -> Result<(Docket, Option<(WrittenLists, ProgrammeLists)>), FileFault>
-    ensures docket { IfOk result (λ read.
-        IsInFiles limits docket.now sheet.now journal.now read.0) }
-    ensures lists { IfOk result (λ read.
-        read.1 ≡ lists_if keeps_lists (rows_of_all docket.now sheet.now journal.now)) }
+    ensures docket { IfOk result (λ docket_and_lists.
+        IsInFiles limits docket.now sheet.now journal.now docket_and_lists.0) }
+    ensures lists { IfOk result (λ docket_and_lists.
+        docket_and_lists.1 ≡ lists_if keeps_lists (rows_of_all docket.now sheet.now journal.now)) }
     ensures fault { IfErr result
         (Tells (fault_of_files limits docket.now sheet.now journal.now)) }
 {
@@ -101,7 +101,7 @@ fn parts_as<H: RandomSource>(
     let mut reading = Reading::new(alloc, hash_keys, limits);
     let ends = read_three(alloc, docket, sheet, journal, &mut reading)?;
     match docket_from(alloc, reading, keeps_lists) {
-        Ok(read) => Ok(read),
+        Ok(docket_and_lists) => Ok(docket_and_lists),
         Err(fault) => Err(located(&ends, fault)),
     }
 }
@@ -137,10 +137,12 @@ pub fn read_parts_with_lists<H: RandomSource>(
     sheet: &[u8],
     journal: &[u8],
 ) -> Result<(Docket, WrittenLists, ProgrammeLists), FileFault>
-    ensures read { IfOk result (λ read.
-        IsInFilesWithLists limits docket.now sheet.now journal.now read.0 read.1) }
-    ensures given { IfOk result (λ read.
-        AreGiven (rows_of_all docket.now sheet.now journal.now) read.0 read.2) }
+    ensures read { IfOk result (λ docket_and_lists.
+        IsInFilesWithLists limits docket.now sheet.now journal.now
+        docket_and_lists.0 docket_and_lists.1) }
+    ensures given { IfOk result (λ docket_and_lists.
+        AreGiven (rows_of_all docket.now sheet.now journal.now)
+        docket_and_lists.0 docket_and_lists.2) }
     ensures fault { IfErr result
         (Tells (fault_of_files limits docket.now sheet.now journal.now)) }
 {

@@ -78,7 +78,7 @@ impl fmt::Display for FaultWithin {
 }
 
 impl From<DocketFault> for RecordsFault {
-    ghost from_gives = { λ fault e. e ≡ Docket fault };
+    ghost from_gives = { λ docket_fault fault. fault ≡ Docket docket_fault };
 
     fn from(fault: DocketFault) -> RecordsFault {
         RecordsFault::Docket(fault)

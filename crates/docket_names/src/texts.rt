@@ -24,7 +24,7 @@ use std::marker::Model;
 /// the text is found by its hash.
 pub struct Texts {
     alloc: Global,
-    seen: IndexSet<NameKey, RandomState>,
+    seen_names: IndexSet<NameKey, RandomState>,
     // The number after the one found last, and whether the text found last came right after the one before it.
     next_number: usize,
     in_order: bool,
@@ -39,10 +39,10 @@ impl Model for Texts {
 
     ghost Value = { List (List ℕ) };
 
-    ghost view = { λ a. a.seen.keys };
+    ghost view = { λ a. a.seen_names.keys };
 
-    ghost invariant = { λ a. (list_all is_name a.seen.keys ≡ true)
-        × AreGuesses a.seen.keys a.guesses.items };
+    ghost invariant = { λ a. (list_all is_name a.seen_names.keys ≡ true)
+        × AreGuesses a.seen_names.keys a.guesses.items };
 }
 
 // One function drops all texts: callers prove nothing about their parts.
@@ -50,7 +50,7 @@ impl Drop for Texts {
     fn drop(self) {
         let Texts {
             alloc: _,
-            seen: _,
+            seen_names: _,
             next_number: _,
             in_order: _,
             guesses: _,
@@ -65,7 +65,7 @@ impl Texts {
     {
         Texts {
             alloc,
-            seen: IndexSet::with_hasher(alloc, keys),
+            seen_names: IndexSet::with_hasher(alloc, keys),
             next_number: 0,
             in_order: false,
             guesses: Vec::new(alloc),
@@ -77,7 +77,7 @@ impl Texts {
         ensures count { result ≡ length self.now }
         ensures distinct { IsDistinct bytes_eq self.now }
     {
-        self.seen.len()
+        self.seen_names.len()
     }
 
     /// The text with this number.
@@ -85,7 +85,7 @@ impl Texts {
         requires { number < length self.now }
         ensures { slice_get self.now number ≡ Some result.now }
     {
-        match self.seen.get_index(number) {
+        match self.seen_names.get_index(number) {
             Some(key) => key.text(),
             None => unreachable!("each number below the count has a text"),
         }
@@ -95,11 +95,11 @@ impl Texts {
     pub fn find(&self, text: &[u8]) -> Option<usize>
         ensures { result ≡ number_in self.now text.now }
     {
-        let seen = &self.seen;
+        let seen_names = &self.seen_names;
         if text.len() > MAX_NAME {
             return None;
         }
-        seen.get_index_of(&NameKey::new(text))
+        seen_names.get_index_of(&NameKey::new(text))
     }
 
     // Whether this text has this number. The text has at most eight bytes, and `word` is these bytes, filled up with
@@ -110,7 +110,7 @@ impl Texts {
         requires word { to_le_bytes w64 word ≡ take 8 (filled text.now) }
         ensures { result ≡ true → slice_get self.now number ≡ Some text.now }
     {
-        match self.seen.get_index(number) {
+        match self.seen_names.get_index(number) {
             Some(key) => key.is_short(text, word),
             None => false,
         }
@@ -121,7 +121,7 @@ impl Texts {
     fn is_text(&self, number: usize, text: &NameKey) -> bool
         ensures { result ≡ true → slice_get self.now number ≡ Some text.now }
     {
-        match self.seen.get_index(number) {
+        match self.seen_names.get_index(number) {
             Some(key) => key == text,
             None => false,
         }
@@ -193,7 +193,7 @@ impl Texts {
         ensures named { is_some result ≡ true → words.is_name text.now ≡ true }
     {
         // For the proof alone: each text has the form of a name.
-        let _seen = &self.seen;
+        let _seen = &self.seen_names;
         let number = self.guessed(text)?;
         self.note(number);
         Some(number)
@@ -242,7 +242,7 @@ impl Texts {
     {
         let key = NameKey::new(name);
         let word = key.word();
-        let number = insert(&mut self.seen, key)?;
+        let number = insert(&mut self.seen_names, key)?;
         make_room(self.alloc, &mut self.guesses, number)?;
         set_guess(&mut self.guesses, word, name.len(), number);
         self.note(number);
@@ -251,14 +251,17 @@ impl Texts {
 }
 
 // The number of this key in the set. If the key is new, it is added to the set.
-fn insert(seen: &mut IndexSet<NameKey, RandomState>, name: NameKey) -> Result<usize, AllocError>
-    requires names { list_all words.is_name seen.old.keys ≡ true }
+fn insert(
+    seen_names: &mut IndexSet<NameKey, RandomState>,
+    name: NameKey,
+) -> Result<usize, AllocError>
+    requires names { list_all words.is_name seen_names.old.keys ≡ true }
     requires name { words.is_name name ≡ true }
-    ensures number { IfOk result (λ n. slice_get seen.new.keys n ≡ Some name) }
-    ensures kept { StartsWith seen.old.keys seen.new.keys }
-    ensures joined { IfOk result (λ n. IsJoined seen.old.keys seen.new.keys name) }
-    ensures names { list_all words.is_name seen.new.keys ≡ true }
+    ensures number { IfOk result (λ n. slice_get seen_names.new.keys n ≡ Some name) }
+    ensures kept { StartsWith seen_names.old.keys seen_names.new.keys }
+    ensures joined { IfOk result (λ n. IsJoined seen_names.old.keys seen_names.new.keys name) }
+    ensures names { list_all words.is_name seen_names.new.keys ≡ true }
 {
-    let (number, _) = seen.insert_full(name)?;
+    let (number, _) = seen_names.insert_full(name)?;
     Ok(number)
 }

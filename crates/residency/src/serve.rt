@@ -67,8 +67,8 @@ fn write_match<W: Write>(
     ensures fault { IfErr result IsWriteFault }
     ensures before { IfErr result (λ fault. fault ≢ DocketFault.Write → writer.new ≡ writer.old) }
 {
-    let mut room = room_for_rows(alloc)?;
-    let mut rows = RowWriter::new(writer, &mut room);
+    let mut row_buffer = room_for_rows(alloc)?;
+    let mut rows = RowWriter::new(writer, &mut row_buffer);
     push_sheet(alloc, &mut rows, docket, assignment)?;
     push_wanted_journal(&mut rows, docket, journal, by_worker, options)?;
     rows.send()?;

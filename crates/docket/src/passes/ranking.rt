@@ -1,6 +1,6 @@
 //! The second pass: the lists and the withdrawals.
 ghost use Rattle.std.specs.Prelude.{◌≡◌, ◌<◌, ◌+◌, ℕ, [], List, None, length, replicate, take, map, slice_get, Some, OnOk, IfOk, true};
-ghost use Rattle.match_model.specs.Draft.{instance_of as made_of};
+ghost use Rattle.match_model.specs.Draft.{instance_of as instance_from};
 ghost use Rattle.std.specs.List.{list_all};
 ghost use Rattle.std.specs.Option.{option_or};
 ghost use Rattle.docket.specs.Answers.{Answers};
@@ -306,12 +306,12 @@ fn finished(
     programme_lists: ProgrammeLists,
     keeps_lists: bool,
 ) -> Result<(Instance, Option<(WrittenLists, ProgrammeLists)>), DocketFault>
-    ensures instance { IfOk result (λ made. (rows : List Fields)
-        → IsRanked builder rows rows → made.0 ≡ made_of (draft_of rows)) }
-    ensures lists { IfOk result (λ made. (rows : List Fields)
+    ensures instance { IfOk result (λ instance_and_lists. (rows : List Fields)
+        → IsRanked builder rows rows → instance_and_lists.0 ≡ instance_from (draft_of rows)) }
+    ensures lists { IfOk result (λ instance_and_lists. (rows : List Fields)
         → IsRanked builder rows rows
         → (keeps_lists ≡ true → programme_lists ≡ builder.programme_lists)
-        → made.1 ≡ lists_if keeps_lists rows) }
+        → instance_and_lists.1 ≡ lists_if keeps_lists rows) }
     ensures fault { (rows : List Fields) → IsRanked builder rows rows
         → records ≡ length rows → Answers (pairs_fault builder.limits rows) result }
 {
@@ -345,12 +345,14 @@ pub(crate) fn instance_of(
     mut builder: InstanceBuilder,
     keeps_lists: bool,
 ) -> Result<(Instance, Option<(WrittenLists, ProgrammeLists)>), DocketFault>
-    ensures instance { IfOk result (λ made. (texts : Fields) (rows : List Fields)
+    ensures instance { IfOk result (λ instance_and_lists. (texts : Fields) (rows : List Fields)
         → AreLists texts lists.now rows → AreKnown texts programmes.now residents.now rows
-        → IsRanked builder rows [] → records ≡ length rows → made.0 ≡ made_of (draft_of rows)) }
-    ensures lists { IfOk result (λ made. (texts : Fields) (rows : List Fields)
+        → IsRanked builder rows [] → records ≡ length rows
+        → instance_and_lists.0 ≡ instance_from (draft_of rows)) }
+    ensures lists { IfOk result (λ instance_and_lists. (texts : Fields) (rows : List Fields)
         → AreLists texts lists.now rows → AreKnown texts programmes.now residents.now rows
-        → IsRanked builder rows [] → records ≡ length rows → made.1 ≡ lists_if keeps_lists rows) }
+        → IsRanked builder rows [] → records ≡ length rows
+        → instance_and_lists.1 ≡ lists_if keeps_lists rows) }
     ensures fault { (texts : Fields) (rows : List Fields)
         → AreLists texts lists.now rows → AreKnown texts programmes.now residents.now rows
         → IsRanked builder rows [] → records ≡ length rows → Answers (option_or

@@ -160,8 +160,8 @@ pub fn write_sheet<W: Write>(
         ⊎ (fault ≡ DocketFault.Write)) }
     ensures before { IfErr result (λ fault. fault ≢ DocketFault.Write → writer.new ≡ writer.old) }
 {
-    let mut room = room_for_rows(alloc)?;
-    let mut rows = RowWriter::new(writer, &mut room);
+    let mut row_buffer = room_for_rows(alloc)?;
+    let mut rows = RowWriter::new(writer, &mut row_buffer);
     push_sheet(alloc, &mut rows, docket, assignment)?;
     rows.send()?;
     Ok(())
