@@ -110,8 +110,8 @@ fn match_command<'a>(alloc: Global) -> Result<Command<'a>, AllocError>
     ensures { IfOk result (λ command. app_of command ≡ match_app) }
 {
     let about = "Writes the sheet of the settled match";
-    let call = "residency match [OPTIONS] < docket.csv";
-    let command = described(alloc, "match", call, about, MATCH_HELP);
+    let usage = "residency match [OPTIONS] < docket.csv";
+    let command = described(alloc, "match", usage, about, MATCH_HELP);
     let command = command.arg(workers_option(alloc))?;
     let command = command.arg(capacity_option(alloc))?;
     let command = command.arg(journal_option(alloc))?;
@@ -123,8 +123,8 @@ fn audit_command<'a>(alloc: Global) -> Command<'a>
     ensures { app_of result ≡ new_app (codes "audit") }
 {
     let about = "Says whether the docket's sheet is stable";
-    let call = "residency audit < docket-and-sheet.csv";
-    described(alloc, "audit", call, about, AUDIT_HELP)
+    let usage = "residency audit < docket-and-sheet.csv";
+    described(alloc, "audit", usage, about, AUDIT_HELP)
 }
 
 // The description of the command that replays a journal.
@@ -132,8 +132,8 @@ fn replay_command<'a>(alloc: Global) -> Command<'a>
     ensures { app_of result ≡ new_app (codes "replay") }
 {
     let about = "Says whether the docket's journal is a good exchange that gives its sheet";
-    let call = "residency replay < docket-and-journal.csv";
-    described(alloc, "replay", call, about, REPLAY_HELP)
+    let usage = "residency replay < docket-and-journal.csv";
+    described(alloc, "replay", usage, about, REPLAY_HELP)
 }
 
 // The description of the program's command line, with its commands.
@@ -142,9 +142,9 @@ fn commands<'a>(alloc: Global) -> Result<Command<'a>, AllocError>
 {
     let about = "Runs a residency match as an exchange of offers, over a docket on standard input";
     let program = with_commands(alloc, "residency", about, VERSION)?;
-    let matching = with_command(program, match_command(alloc)?)?;
-    let auditing = with_command(matching, audit_command(alloc))?;
-    with_command(auditing, replay_command(alloc))
+    let program_with_match = with_command(program, match_command(alloc)?)?;
+    let program_with_audit = with_command(program_with_match, audit_command(alloc))?;
+    with_command(program_with_audit, replay_command(alloc))
 }
 
 // The number of workers that the words give, from 1 to 8; 2 if they give none.
@@ -221,9 +221,9 @@ fn matches_of<'a, S: AsStr>(
 
 // What the words ask the program to do, or none if they name no command.
 fn order_named(matches: &ArgMatches) -> Result<Option<Order>, LineFault>
-    ensures order { IfOk result (λ named. IfSome named IsOrder) }
-    ensures named { IfOk result (λ named. IfSome named (IsNamed (subcommand_rows_of matches.now))) }
-    ensures none { IfOk result (λ named. named ≡ None
+    ensures order { IfOk result (λ order. IfSome order IsOrder) }
+    ensures named { IfOk result (λ order. IfSome order (IsNamed (subcommand_rows_of matches.now))) }
+    ensures none { IfOk result (λ order. order ≡ None
         → NamesNone (subcommand_rows_of matches.now)) }
     ensures fault { IfErr result (λ fault. fault ≡ BadCapacity) }
     ensures bad { IfErr result (λ fault. HasBadRoom (subcommand_rows_of matches.now)) }

@@ -111,7 +111,7 @@ pub filled_at : (marks : Marks) (rows done : List Fields) (name : List ℕ) (i :
 filled_at marks rows done name i d h at = rw h.filled (at_number (λ (n : List ℕ). list_any (is_row_of FILLED n) done) (programmes_of rows) name i d at)
 
 pub counts_at : (marks : Marks) (rows done : List Fields) (name : List ℕ) (i d : ℕ) → IsMarked marks rows done → number_in (programmes_of rows) name ≡ Some i
-    → get_or marks.counts.items i d ≡ count_by (is_matched_with name) done
+    → get_or marks.matched_counts.items i d ≡ count_by (is_matched_with name) done
 counts_at marks rows done name i d h at = rw h.counts (at_number (λ (n : List ℕ). count_by (is_matched_with n) done) (programmes_of rows) name i d at)
 
 -- an F row with an undeclared programme has the fault of an unknown name
@@ -155,7 +155,7 @@ pub marks_matched : (m e : Marks) (rows done : List Fields) (row : Fields) (i p 
     → kind_of row ≡ MATCHED → number_in (residents_of rows) (field row 1) ≡ Some i → number_in (programmes_of rows) (field row 2) ≡ Some p
     → list_any (is_mark_of (field row 1)) done ≡ false → IsMarked m rows done
     → e.sheet ≡ slice_set m.sheet i (Some p) → e.marked.items ≡ slice_set m.marked.items i true → e.filled.items ≡ m.filled.items
-    → e.counts.items ≡ slice_set m.counts.items p (count_by (is_matched_with (field row 2)) done + 1) → IsMarked e rows (done ++ row ∷ [])
+    → e.matched_counts.items ≡ slice_set m.matched_counts.items p (count_by (is_matched_with (field row 2)) done + 1) → IsMarked e rows (done ++ row ∷ [])
 marks_matched m e rows done row i p dp dr kind at to free h es em ef ec = record {
   sheet = es ∙ ap (λ (l : List (Option ℕ)). slice_set l i (Some p)) h.sheet
       ∙ sym (placed_at (programmes_of rows) (residents_of rows) done row i p dr at kind to (unmarked_unmatched (field row 1) done free));
@@ -169,7 +169,7 @@ marks_matched m e rows done row i p dp dr kind at to free h es em ef ec = record
 
 pub marks_unmatched : (m e : Marks) (rows done : List Fields) (row : Fields) (i : ℕ) → distinct (residents_of rows) ≡ true
     → kind_of row ≡ UNMATCHED → number_in (residents_of rows) (field row 1) ≡ Some i → IsMarked m rows done
-    → e.sheet ≡ m.sheet → e.marked.items ≡ slice_set m.marked.items i true → e.filled.items ≡ m.filled.items → e.counts.items ≡ m.counts.items → IsMarked e rows (done ++ row ∷ [])
+    → e.sheet ≡ m.sheet → e.marked.items ≡ slice_set m.marked.items i true → e.filled.items ≡ m.filled.items → e.matched_counts.items ≡ m.matched_counts.items → IsMarked e rows (done ++ row ∷ [])
 marks_unmatched m e rows done row i dr kind at h es em ef ec = record {
   sheet = es ∙ h.sheet ∙ placed_kept rows done row (rw kind refl);
   marked = em ∙ flags_more is_mark_of (residents_of rows) done row i (field row 1) m.marked.items dr at
@@ -180,7 +180,7 @@ marks_unmatched m e rows done row i dr kind at h es em ef ec = record {
 
 pub marks_filled : (m e : Marks) (rows done : List Fields) (row : Fields) (i : ℕ) → distinct (programmes_of rows) ≡ true
     → kind_of row ≡ FILLED → number_in (programmes_of rows) (field row 1) ≡ Some i → IsMarked m rows done
-    → e.sheet ≡ m.sheet → e.marked.items ≡ m.marked.items → e.filled.items ≡ slice_set m.filled.items i true → e.counts.items ≡ m.counts.items → IsMarked e rows (done ++ row ∷ [])
+    → e.sheet ≡ m.sheet → e.marked.items ≡ m.marked.items → e.filled.items ≡ slice_set m.filled.items i true → e.matched_counts.items ≡ m.matched_counts.items → IsMarked e rows (done ++ row ∷ [])
 marks_filled m e rows done row i dp kind at h es em ef ec = record {
   sheet = es ∙ h.sheet ∙ placed_kept rows done row (rw kind refl);
   marked = em ∙ h.marked ∙ flags_kept is_mark_of (residents_of rows) done row (λ x. rw kind refl);

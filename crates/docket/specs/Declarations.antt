@@ -48,7 +48,7 @@ pub record IsDeclared (d : Declarations) (texts : Fields) (rows : List Fields) :
   pub listed : d.listed ≡ all_listed rows
   pub capacity : d.capacity ≡ capacity_in rows
   pub no_events : d.capacity ≡ None → list_any (is_kind EVENT) rows ≡ false
-  pub by_worker : AreByWorker d.workers d.who.items rows
+  pub by_worker : AreByWorker d.workers d.event_workers.items rows
   pub sheet_rows : d.has_sheet_row ≡ list_any is_sheet_row rows
   pub version : d.is_version_2 ≡ is_version_2 rows
   pub withdrawn_programmes : AreNoted texts d.withdrawn_programmes (names_withdrawn (codes "P") rows)

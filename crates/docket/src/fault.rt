@@ -88,7 +88,7 @@ impl fmt::Display for DocketFault {
 }
 
 impl From<AllocError> for DocketFault {
-    ghost from_gives = { λ _ e. e ≡ Memory };
+    ghost from_gives = { λ _ fault. fault ≡ Memory };
 
     fn from(_error: AllocError) -> DocketFault {
         DocketFault::Memory
@@ -96,7 +96,7 @@ impl From<AllocError> for DocketFault {
 }
 
 impl From<WriteFailed> for DocketFault {
-    ghost from_gives = { λ _ e. e ≡ Write };
+    ghost from_gives = { λ _ fault. fault ≡ Write };
 
     fn from(_error: WriteFailed) -> DocketFault {
         DocketFault::Write
@@ -104,7 +104,7 @@ impl From<WriteFailed> for DocketFault {
 }
 
 impl<T: Drop> From<AllocFailed<T>> for DocketFault {
-    ghost from_gives = { λ _ e. e ≡ Memory };
+    ghost from_gives = { λ _ fault. fault ≡ Memory };
 
     fn from(_error: AllocFailed<T>) -> DocketFault {
         DocketFault::Memory

@@ -4,7 +4,7 @@ ghost use Rattle.docket.specs.FileFault as spec;
 
 use crate::fault::DocketFault;
 use crate::part::Part;
-use crate::records_fault::{RecordsFault, there_is};
+use crate::records_fault::{RecordsFault, counted_in_file};
 
 /// A fault of files that are read as parts, with the file in which it is.
 #[derive(Clone, Copy, Debug, PartialEq, Eq)]
@@ -74,7 +74,7 @@ pub(crate) fn fault_in_file(file: Part, records_before: u32, fault: RecordsFault
 {
     FileFault {
         file,
-        fault: there_is(records_before, fault),
+        fault: counted_in_file(records_before, fault),
     }
 }
 
@@ -92,19 +92,19 @@ fn last_file(fault: DocketFault) -> Part
 
 // The file of a record, and the record's number in this file. `place` is the record's number among the records of all
 // files.
-fn in_file(ends: &Ends, last: Part, place: u32) -> (Part, u32)
-    ensures { result ≡ spec.in_file ends.now.docket ends.now.sheet last place }
+fn in_file(ends: &Ends, last_part: Part, place: u32) -> (Part, u32)
+    ensures { result ≡ spec.in_file ends.now.docket ends.now.sheet last_part place }
 {
     if place <= ends.docket {
         return (Part::Docket, place);
     }
-    if last == Part::Docket {
+    if last_part == Part::Docket {
         return (Part::Docket, ends.docket);
     }
     if place <= ends.sheet {
         return (Part::Sheet, place.saturating_sub(ends.docket));
     }
-    if last == Part::Sheet {
+    if last_part == Part::Sheet {
         return (Part::Sheet, ends.sheet.saturating_sub(ends.docket));
     }
     (Part::Journal, place.saturating_sub(ends.sheet))
@@ -114,8 +114,8 @@ fn in_file(ends: &Ends, last: Part, place: u32) -> (Part, u32)
 pub(crate) fn located(ends: &Ends, fault: DocketFault) -> FileFault
     ensures { result ≡ spec.located ends.now.docket ends.now.sheet fault }
 {
-    let (last, same_fault) = (last_file(fault), fault);
-    let (file, place) = in_file(ends, last, number_of(fault));
+    let (last_part, same_fault) = (last_file(fault), fault);
+    let (file, place) = in_file(ends, last_part, number_of(fault));
     FileFault {
         file,
         fault: RecordsFault::Docket(at_place(place, same_fault)),

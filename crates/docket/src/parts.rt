@@ -1,7 +1,7 @@
 //! How a docket is read from the files of a market, each read as its own part.
 ghost use Rattle.std.specs.Prelude.{List, [], ◌≡◌, ◌≤◌, None, Some, IfErr, IfOk, IfSome, OnOk};
 ghost use Rattle.records.specs.Reading.{Fields, rows_of};
-ghost use Rattle.docket.specs.Limits.{most_records as most_in};
+ghost use Rattle.docket.specs.Limits.{most_records as most_records_in};
 ghost use Rattle.docket.specs.Parts.{AreEnds, AreGiven, GoesOn, IsInFiles, IsInFilesWithLists, Tells, fault_of_files, file_fault, files_fault, rows_of_all};
 ghost use Rattle.docket.specs.Passed.{HasPassed, IsPassed};
 ghost use Rattle.docket.specs.Reading.{IsReading};
@@ -27,15 +27,15 @@ fn read_file(
     bytes: &[u8],
     reading: &mut Reading,
 ) -> Result<(), FileFault>
-    requires within { reading.old.records ≤ most_in reading.old.declared.builder.limits }
+    requires within { reading.old.records ≤ most_records_in reading.old.declared.builder.limits }
     requires workers { IfSome reading.old.declared.workers (λ n. n ≤ 8) }
     ensures workers { OnOk result (IfSome reading.new.declared.workers (λ n. n ≤ 8)) }
     ensures passed { OnOk result ((kept : List Fields) → IsPassed reading.old kept
         → GoesOn (Some file) kept (Some (rows_of bytes.now)) reading.new) }
     ensures limits { OnOk result
         (reading.new.declared.builder.limits ≡ reading.old.declared.builder.limits) }
-    ensures fault { IfErr result (λ e. (kept : List Fields) → IsPassed reading.old kept → Tells
-        (file_fault file reading.old.declared.builder.limits kept (rows_of bytes.now)) e) }
+    ensures fault { IfErr result (λ fault. (kept : List Fields) → IsPassed reading.old kept → Tells
+        (file_fault file reading.old.declared.builder.limits kept (rows_of bytes.now)) fault) }
 {
     let records_before = reading.records;
     match read_part(alloc, Some(file), bytes, reading) {
@@ -85,23 +85,23 @@ fn parts_as<H: RandomSource>(
     journal: &[u8],
     keeps_lists: bool,
 ) -> Result<(Docket, Option<(WrittenLists, ProgrammeLists)>), FileFault>
-    ensures docket { IfOk result (λ read.
-        IsInFiles limits docket.now sheet.now journal.now read.0) }
-    ensures lists { IfOk result (λ read.
-        read.1 ≡ lists_if keeps_lists (rows_of_all docket.now sheet.now journal.now)) }
+    ensures docket { IfOk result (λ docket_and_lists.
+        IsInFiles limits docket.now sheet.now journal.now docket_and_lists.0) }
+    ensures lists { IfOk result (λ docket_and_lists.
+        docket_and_lists.1 ≡ lists_if keeps_lists (rows_of_all docket.now sheet.now journal.now)) }
     ensures fault { IfErr result
         (Tells (fault_of_files limits docket.now sheet.now journal.now)) }
 {
-    let Ok(keys) = RandomState::new(rt) else {
+    let Ok(hash_keys) = RandomState::new(rt) else {
         return Err(FileFault {
             file: Part::Docket,
             fault: RecordsFault::Docket(DocketFault::Read { place: 1 }),
         });
     };
-    let mut reading = Reading::new(alloc, keys, limits);
+    let mut reading = Reading::new(alloc, hash_keys, limits);
     let ends = read_three(alloc, docket, sheet, journal, &mut reading)?;
     match docket_from(alloc, reading, keeps_lists) {
-        Ok(read) => Ok(read),
+        Ok(docket_and_lists) => Ok(docket_and_lists),
         Err(fault) => Err(located(&ends, fault)),
     }
 }
@@ -137,10 +137,12 @@ pub fn read_parts_with_lists<H: RandomSource>(
     sheet: &[u8],
     journal: &[u8],
 ) -> Result<(Docket, WrittenLists, ProgrammeLists), FileFault>
-    ensures read { IfOk result (λ read.
-        IsInFilesWithLists limits docket.now sheet.now journal.now read.0 read.1) }
-    ensures given { IfOk result (λ read.
-        AreGiven (rows_of_all docket.now sheet.now journal.now) read.0 read.2) }
+    ensures read { IfOk result (λ docket_and_lists.
+        IsInFilesWithLists limits docket.now sheet.now journal.now
+        docket_and_lists.0 docket_and_lists.1) }
+    ensures given { IfOk result (λ docket_and_lists.
+        AreGiven (rows_of_all docket.now sheet.now journal.now)
+        docket_and_lists.0 docket_and_lists.2) }
     ensures fault { IfErr result
         (Tells (fault_of_files limits docket.now sheet.now journal.now)) }
 {

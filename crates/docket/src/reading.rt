@@ -1,6 +1,6 @@
 //! The first pass: the records read so far.
 ghost use Rattle.std.specs.Prelude.{◌≡◌, ◌<◌, ◌≤◌, ◌+◌, [], IfSome};
-ghost use Rattle.docket.specs.Limits.{most_records as most_in};
+ghost use Rattle.docket.specs.Limits.{most_records as most_records_in};
 ghost use Rattle.docket.specs.Reading.{IsReading};
 
 use crate::declarations::Declarations;
@@ -45,7 +45,7 @@ impl Reading {
     /// The number of the next record, from 1.
     #[inline(always)]
     pub(crate) fn place(&self) -> u32
-        requires { self.now.records < most_in self.now.declared.builder.limits }
+        requires { self.now.records < most_records_in self.now.declared.builder.limits }
         ensures { result ≡ self.now.records + 1 }
     {
         self.records + 1

@@ -78,7 +78,7 @@ impl fmt::Display for FaultWithin {
 }
 
 impl From<DocketFault> for RecordsFault {
-    ghost from_gives = { λ fault e. e ≡ Docket fault };
+    ghost from_gives = { λ docket_fault fault. fault ≡ Docket docket_fault };
 
     fn from(fault: DocketFault) -> RecordsFault {
         RecordsFault::Docket(fault)
@@ -100,7 +100,7 @@ pub(crate) fn of_docket(fault: RecordsFault) -> DocketFault
 
 /// The fault with its record counted in its own file, which comes after `records_before` records of other
 /// files.
-pub(crate) fn there_is(records_before: u32, fault: RecordsFault) -> RecordsFault
+pub(crate) fn counted_in_file(records_before: u32, fault: RecordsFault) -> RecordsFault
     ensures { result ≡ spec.there_is records_before fault }
 {
     match fault {

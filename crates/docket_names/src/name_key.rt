@@ -70,14 +70,14 @@ impl NameKey {
     pub(crate) fn word(&self) -> u64
         ensures { length self.now ≤ 8 → to_le_bytes w64 result ≡ take 8 (filled self.now) }
     {
-        let first = first_word(&self.bytes);
+        let word_one = first_word(&self.bytes);
         if self.len <= 8 {
-            return first;
+            return word_one;
         }
-        let second = word_at(&self.bytes, 8).rotate_left(7);
-        let third = word_at(&self.bytes, 16).rotate_left(14);
-        let fourth = word_at(&self.bytes, 24).rotate_left(21);
-        first ^ second ^ third ^ fourth
+        let word_two = word_at(&self.bytes, 8).rotate_left(7);
+        let word_three = word_at(&self.bytes, 16).rotate_left(14);
+        let word_four = word_at(&self.bytes, 24).rotate_left(21);
+        word_one ^ word_two ^ word_three ^ word_four
     }
 }
 
@@ -144,14 +144,14 @@ fn word_at(bytes: &[u8; MAX_NAME], i: usize) -> u64
 }
 
 // Whether two keys' bytes are equal, compared word by word.
-fn same_words(a: &[u8; MAX_NAME], b: &[u8; MAX_NAME]) -> bool
-    ensures { result ≡ bytes_eq a.now b.now }
+fn same_words(left_bytes: &[u8; MAX_NAME], right_bytes: &[u8; MAX_NAME]) -> bool
+    ensures { result ≡ bytes_eq left_bytes.now right_bytes.now }
 {
-    let first = word_at(a, 0) == word_at(b, 0);
-    let second = word_at(a, 8) == word_at(b, 8);
-    let third = word_at(a, 16) == word_at(b, 16);
-    let fourth = word_at(a, 24) == word_at(b, 24);
-    first & second & third & fourth
+    let first_equal = word_at(left_bytes, 0) == word_at(right_bytes, 0);
+    let second_equal = word_at(left_bytes, 8) == word_at(right_bytes, 8);
+    let third_equal = word_at(left_bytes, 16) == word_at(right_bytes, 16);
+    let fourth_equal = word_at(left_bytes, 24) == word_at(right_bytes, 24);
+    first_equal & second_equal & third_equal & fourth_equal
 }
 
 // How many bytes of the key are hashed for a text of this length: one word, two words, or all four words.

@@ -6,7 +6,9 @@ ghost use Rattle.docket_names.specs.NameKeys.{filled};
 ghost use Rattle.docket_names.specs.Texts.{number_in, StartsWith, IsJoined};
 ghost use Rattle.docket_names.specs.Words as words;
 
-use crate::guesses::{Guess, NEAR, find_short, make_room, number_at, place_of, set_guess};
+use crate::guesses::{
+    Guess, PLACES_OF_TEXT, find_short_text, make_room, number_at, place_of, set_guess,
+};
 use crate::name_key::{MAX_NAME, NameKey, short_word};
 use crate::words::is_name;
 use indexmap::IndexSet;
@@ -22,9 +24,9 @@ use std::marker::Model;
 /// the text is found by its hash.
 pub struct Texts {
     alloc: Global,
-    seen: IndexSet<NameKey, RandomState>,
+    seen_names: IndexSet<NameKey, RandomState>,
     // The number after the one found last, and whether the text found last came right after the one before it.
-    next: usize,
+    next_number: usize,
     in_order: bool,
     guesses: Vec<Guess>,
 }
@@ -37,10 +39,10 @@ impl Model for Texts {
 
     ghost Value = { List (List ℕ) };
 
-    ghost view = { λ a. a.seen.keys };
+    ghost view = { λ a. a.seen_names.keys };
 
-    ghost invariant = { λ a. (list_all is_name a.seen.keys ≡ true)
-        × AreGuesses a.seen.keys a.guesses.items };
+    ghost invariant = { λ a. (list_all is_name a.seen_names.keys ≡ true)
+        × AreGuesses a.seen_names.keys a.guesses.items };
 }
 
 // One function drops all texts: callers prove nothing about their parts.
@@ -48,8 +50,8 @@ impl Drop for Texts {
     fn drop(self) {
         let Texts {
             alloc: _,
-            seen: _,
-            next: _,
+            seen_names: _,
+            next_number: _,
             in_order: _,
             guesses: _,
         } = self;
@@ -63,8 +65,8 @@ impl Texts {
     {
         Texts {
             alloc,
-            seen: IndexSet::with_hasher(alloc, keys),
-            next: 0,
+            seen_names: IndexSet::with_hasher(alloc, keys),
+            next_number: 0,
             in_order: false,
             guesses: Vec::new(alloc),
         }
@@ -75,7 +77,7 @@ impl Texts {
         ensures count { result ≡ length self.now }
         ensures distinct { IsDistinct bytes_eq self.now }
     {
-        self.seen.len()
+        self.seen_names.len()
     }
 
     /// The text with this number.
@@ -83,7 +85,7 @@ impl Texts {
         requires { number < length self.now }
         ensures { slice_get self.now number ≡ Some result.now }
     {
-        match self.seen.get_index(number) {
+        match self.seen_names.get_index(number) {
             Some(key) => key.text(),
             None => unreachable!("each number below the count has a text"),
         }
@@ -93,22 +95,22 @@ impl Texts {
     pub fn find(&self, text: &[u8]) -> Option<usize>
         ensures { result ≡ number_in self.now text.now }
     {
-        let seen = &self.seen;
+        let seen_names = &self.seen_names;
         if text.len() > MAX_NAME {
             return None;
         }
-        seen.get_index_of(&NameKey::new(text))
+        seen_names.get_index_of(&NameKey::new(text))
     }
 
     // Whether this text has this number. The text has at most eight bytes, and `word` is these bytes, filled up with
     // zeros, as a number.
     #[inline(always)]
-    fn is_short(&self, number: usize, text: &[u8], word: u64) -> bool
+    fn is_short_text(&self, number: usize, text: &[u8], word: u64) -> bool
         requires short { length text.now ≤ 8 }
         requires word { to_le_bytes w64 word ≡ take 8 (filled text.now) }
         ensures { result ≡ true → slice_get self.now number ≡ Some text.now }
     {
-        match self.seen.get_index(number) {
+        match self.seen_names.get_index(number) {
             Some(key) => key.is_short(text, word),
             None => false,
         }
@@ -119,7 +121,7 @@ impl Texts {
     fn is_text(&self, number: usize, text: &NameKey) -> bool
         ensures { result ≡ true → slice_get self.now number ≡ Some text.now }
     {
-        match self.seen.get_index(number) {
+        match self.seen_names.get_index(number) {
             Some(key) => key == text,
             None => false,
         }
@@ -128,17 +130,17 @@ impl Texts {
     // The number of this text, if a guess finds it. The text has at most eight bytes, and `word` is these bytes,
     // filled up with zeros, as a number.
     #[inline(always)]
-    fn guess_short(&self, text: &[u8], word: u64) -> Option<usize>
+    fn guess_short_text(&self, text: &[u8], word: u64) -> Option<usize>
         requires some { 0 < length text.now }
         requires short { length text.now ≤ 8 }
         requires word { to_le_bytes w64 word ≡ take 8 (filled text.now) }
         ensures { IfSome result (λ n. slice_get self.now n ≡ Some text.now) }
     {
-        let next = self.next;
-        if self.in_order && self.is_short(next, text, word) {
-            return Some(next);
+        let next_number = self.next_number;
+        if self.in_order && self.is_short_text(next_number, text, word) {
+            return Some(next_number);
         }
-        find_short(&self.guesses, text, word)
+        find_short_text(&self.guesses, text, word)
     }
 
     // The number of this text, if a guess finds the text.
@@ -146,13 +148,13 @@ impl Texts {
     fn guess_text(&self, text: &NameKey) -> Option<usize>
         ensures { IfSome result (λ n. slice_get self.now n ≡ Some text.now) }
     {
-        let next = self.next;
-        if self.in_order && self.is_text(next, text) {
-            return Some(next);
+        let next_number = self.next_number;
+        if self.in_order && self.is_text(next_number, text) {
+            return Some(next_number);
         }
         let word = text.word();
         let place = place_of(word, self.guesses.len());
-        for k in 0..NEAR {
+        for k in 0..PLACES_OF_TEXT {
             if let Some(number) = number_at(&self.guesses, place ^ k, word)
                 && self.is_text(number, text)
             {
@@ -168,7 +170,7 @@ impl Texts {
         ensures { IfSome result (λ n. slice_get self.now n ≡ Some text.now) }
     {
         match text.len() {
-            1..=8 => self.guess_short(text, short_word(text)),
+            1..=8 => self.guess_short_text(text, short_word(text)),
             9..=MAX_NAME => self.guess_text(&NameKey::new(text)),
             _ => None,
         }
@@ -179,8 +181,8 @@ impl Texts {
     fn note(&mut self, number: usize)
         ensures { self.new ≡ self.old }
     {
-        self.in_order = number == self.next;
-        self.next = number.saturating_add(1);
+        self.in_order = number == self.next_number;
+        self.next_number = number.saturating_add(1);
     }
 
     /// The number of this text, if a guess finds the text. A text that a guess finds has the form of a name.
@@ -191,7 +193,7 @@ impl Texts {
         ensures named { is_some result ≡ true → words.is_name text.now ≡ true }
     {
         // For the proof alone: each text has the form of a name.
-        let _seen = &self.seen;
+        let _seen = &self.seen_names;
         let number = self.guessed(text)?;
         self.note(number);
         Some(number)
@@ -240,7 +242,7 @@ impl Texts {
     {
         let key = NameKey::new(name);
         let word = key.word();
-        let number = insert(&mut self.seen, key)?;
+        let number = insert(&mut self.seen_names, key)?;
         make_room(self.alloc, &mut self.guesses, number)?;
         set_guess(&mut self.guesses, word, name.len(), number);
         self.note(number);
@@ -249,14 +251,17 @@ impl Texts {
 }
 
 // The number of this key in the set. If the key is new, it is added to the set.
-fn insert(seen: &mut IndexSet<NameKey, RandomState>, name: NameKey) -> Result<usize, AllocError>
-    requires names { list_all words.is_name seen.old.keys ≡ true }
+fn insert(
+    seen_names: &mut IndexSet<NameKey, RandomState>,
+    name: NameKey,
+) -> Result<usize, AllocError>
+    requires names { list_all words.is_name seen_names.old.keys ≡ true }
     requires name { words.is_name name ≡ true }
-    ensures number { IfOk result (λ n. slice_get seen.new.keys n ≡ Some name) }
-    ensures kept { StartsWith seen.old.keys seen.new.keys }
-    ensures joined { IfOk result (λ n. IsJoined seen.old.keys seen.new.keys name) }
-    ensures names { list_all words.is_name seen.new.keys ≡ true }
+    ensures number { IfOk result (λ n. slice_get seen_names.new.keys n ≡ Some name) }
+    ensures kept { StartsWith seen_names.old.keys seen_names.new.keys }
+    ensures joined { IfOk result (λ n. IsJoined seen_names.old.keys seen_names.new.keys name) }
+    ensures names { list_all words.is_name seen_names.new.keys ≡ true }
 {
-    let (number, _) = seen.insert_full(name)?;
+    let (number, _) = seen_names.insert_full(name)?;
     Ok(number)
 }

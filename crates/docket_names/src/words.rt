@@ -15,10 +15,10 @@ static NAME_BYTES: [u8; 256] = *b"\
     ,,,,,,,,,,,,,,,,,,,,,,,,,,,,,,,,";
 
 // Whether the byte is an ASCII letter, an ASCII digit, `-`, `_` or `.`.
-fn is_name_byte(c: u8) -> bool
-    ensures { result ≡ words.is_name_byte c }
+fn is_name_byte(byte: u8) -> bool
+    ensures { result ≡ words.is_name_byte byte }
 {
-    NAME_BYTES[c as usize] != b','
+    NAME_BYTES[byte as usize] != b','
 }
 
 // Whether the four bytes of the text from byte `i` on may all stand in a name.
@@ -27,31 +27,31 @@ fn has_four_at(text: &[u8], i: usize) -> bool
     requires { i + 4 ≤ length text.now }
     ensures { result ≡ list_all words.is_name_byte (take 4 (drop i text.now)) }
 {
-    let first = is_name_byte(text[i]);
-    let second = is_name_byte(text[i + 1]);
-    let third = is_name_byte(text[i + 2]);
-    let fourth = is_name_byte(text[i + 3]);
-    first & second & third & fourth
+    let first_fits = is_name_byte(text[i]);
+    let second_fits = is_name_byte(text[i + 1]);
+    let third_fits = is_name_byte(text[i + 2]);
+    let fourth_fits = is_name_byte(text[i + 3]);
+    first_fits & second_fits & third_fits & fourth_fits
 }
 
 // Whether each byte of the text may stand in a name, tested one byte after another.
 fn has_name_bytes_by_one(text: &[u8]) -> bool
     ensures { result ≡ list_all words.is_name_byte text.now }
 {
-    text.iter().all(|c| is_name_byte(*c))
+    text.iter().all(|byte| is_name_byte(*byte))
 }
 
 // Whether each byte of the text may stand in a name, tested four bytes at a time.
 fn has_name_bytes(text: &[u8]) -> bool
     ensures { result ≡ list_all words.is_name_byte text.now }
 {
-    let fours = text.len() / 4;
-    for k in 0..fours {
+    let groups_of_four = text.len() / 4;
+    for k in 0..groups_of_four {
         if !has_four_at(text, k * 4) {
             return false;
         }
     }
-    has_name_bytes_by_one(&text[fours * 4..])
+    has_name_bytes_by_one(&text[groups_of_four * 4..])
 }
 
 /// Whether the text has the form of a name: 1 to 32 characters, each a letter, a digit, `-`, `_` or `.`.
@@ -66,7 +66,7 @@ pub fn is_name(text: &[u8]) -> bool
 fn has_digits(text: &[u8]) -> bool
     ensures { result ≡ list_all words.is_digit text.now }
 {
-    text.iter().all(|c| b'0' <= *c && *c <= b'9')
+    text.iter().all(|byte| b'0' <= *byte && *byte <= b'9')
 }
 
 /// Whether the text is 1 to 9 ASCII digits.
@@ -83,8 +83,8 @@ pub fn digits_worth(digits: &[u8]) -> u32
     ensures { result ≡ words.digits_worth digits.now }
 {
     let mut worth = 0;
-    for c in digits {
-        worth = worth * 10 + (*c - b'0') as u32;
+    for digit in digits {
+        worth = worth * 10 + (*digit - b'0') as u32;
     }
     worth
 }

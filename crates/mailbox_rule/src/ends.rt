@@ -36,11 +36,11 @@ pub trait PutEnd<M> {
     ghost may_go: { Self → Type 0 };
 
     /// Puts a message into the mailbox, or returns the message and changes nothing.
-    fn put(&mut self, m: M) -> PutReply<M>
+    fn put(&mut self, message: M) -> PutReply<M>
         ensures { MatchPut result
-            (puts self.new ≡ puts self.old ++ m ∷ [])
-            (λ back. (back ≡ m) × (self.new ≡ self.old) × may_fill self.old)
-            (λ back. (back ≡ m) × (self.new ≡ self.old) × may_go self.old) };
+            (puts self.new ≡ puts self.old ++ message ∷ [])
+            (λ returned. (returned ≡ message) × (self.new ≡ self.old) × may_fill self.old)
+            (λ returned. (returned ≡ message) × (self.new ≡ self.old) × may_go self.old) };
 }
 
 /// The receiving end of a mailbox.
@@ -57,7 +57,7 @@ pub trait TakeEnd<M> {
     /// Takes the oldest message from the mailbox, or changes nothing.
     fn take(&mut self) -> TakeReply<M>
         ensures { MatchTake result
-            (λ m. taken self.new ≡ taken self.old ++ m ∷ [])
+            (λ message. taken self.new ≡ taken self.old ++ message ∷ [])
             ((self.new ≡ self.old) × may_lack self.old)
             ((self.new ≡ self.old) × may_go self.old) };
 }

@@ -26,12 +26,12 @@ impl<M> Model for ListPut<M> {
 }
 
 impl<M> ListPut<M> {
-    /// A sending end with room for `n` messages, where `n` may be 0. The only fault is `Memory`.
-    pub fn with_room(alloc: Global, n: u32) -> Result<ListPut<M>, MailFault>
-        ensures made { IfOk result (λ end. (end.room ≡ n) × (end.puts ≡ [])) }
+    /// A sending end with room for `capacity` messages, where `capacity` may be 0. The only fault is `Memory`.
+    pub fn with_room(alloc: Global, capacity: u32) -> Result<ListPut<M>, MailFault>
+        ensures made { IfOk result (λ end. (end.room ≡ capacity) × (end.puts ≡ [])) }
         ensures memory { IfErr result (λ fault. fault ≡ MailFault.Memory) }
     {
-        let room = n as usize;
+        let room = capacity as usize;
         let messages = Vec::with_capacity(alloc, room)?;
         Ok(ListPut { messages, room })
     }
@@ -44,15 +44,16 @@ impl<M> PutEnd<M> for ListPut<M> {
 
     ghost may_go = { λ _. ⊥ };
 
-    fn put(&mut self, m: M) -> PutReply<M>
+    fn put(&mut self, message: M) -> PutReply<M>
         ensures { MatchPut result ((length self.old.puts < self.old.room)
-            × (self.new ≡ record self.old { puts = self.old.puts ++ m ∷ [] })) (λ back. (back ≡ m)
+            × (self.new ≡ record self.old { puts = self.old.puts ++ message ∷ [] })) (λ returned.
+            (returned ≡ message)
             × (self.new ≡ self.old) × (length self.old.puts ≡ self.old.room)) (λ _. ⊥) }
     {
         if self.messages.len() >= self.room {
-            return PutReply::Full(m);
+            return PutReply::Full(message);
         }
-        self.messages.push_reserved(m);
+        self.messages.push_reserved(message);
         PutReply::Done
     }
 }
@@ -61,7 +62,7 @@ impl<M> PutEnd<M> for ListPut<M> {
 #[derive(Drop)]
 pub struct ListTake<M: Copy> {
     messages: Vec<M>,
-    next: usize,
+    next_index: usize,
 }
 
 impl<M: Copy> Model for ListTake<M> {
@@ -70,10 +71,12 @@ impl<M: Copy> Model for ListTake<M> {
 
     ghost Value = { TakeList M };
 
-    ghost view = { λ e.
-        record { taken = take e.next e.messages.items; left = drop e.next e.messages.items } };
+    ghost view = { λ e. record {
+      taken = take e.next_index e.messages.items;
+      left = drop e.next_index e.messages.items;
+    } };
 
-    ghost invariant = { λ e. e.next ≤ vec_len e.messages };
+    ghost invariant = { λ e. e.next_index ≤ vec_len e.messages };
 }
 
 impl<M: Copy> ListTake<M> {
@@ -81,7 +84,10 @@ impl<M: Copy> ListTake<M> {
     pub fn of(messages: Vec<M>) -> ListTake<M>
         ensures { (result.left ≡ messages.items) × (result.taken ≡ []) }
     {
-        ListTake { messages, next: 0 }
+        ListTake {
+            messages,
+            next_index: 0,
+        }
     }
 }
 
@@ -94,15 +100,16 @@ impl<M: Copy> TakeEnd<M> for ListTake<M> {
 
     fn take(&mut self) -> TakeReply<M>
         ensures { MatchTake result
-            (λ m. (self.old.left ≡ m ∷ self.new.left) × (self.new.taken ≡ self.old.taken ++ m ∷ []))
+            (λ message. (self.old.left ≡ message ∷ self.new.left)
+            × (self.new.taken ≡ self.old.taken ++ message ∷ []))
             ((self.old.left ≡ []) × (self.new ≡ self.old))
             ⊥ }
     {
-        if self.next >= self.messages.len() {
+        if self.next_index >= self.messages.len() {
             return TakeReply::Nothing;
         }
-        let m = self.messages[self.next];
-        self.next += 1;
-        TakeReply::Got(m)
+        let message = self.messages[self.next_index];
+        self.next_index += 1;
+        TakeReply::Got(message)
     }
 }

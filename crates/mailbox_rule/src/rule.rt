@@ -35,9 +35,9 @@ impl<M> Split<Known<M>> for Brand {
     ghost use Rattle.std.specs.Prelude.{true, false, []};
     ghost use Rattle.mailbox_rule.specs.Rule.{known};
 
-    ghost left = { λ h. known true false 0 h.puts [] };
+    ghost left = { λ hand. known true false 0 hand.puts [] };
 
-    ghost right = { λ h. known false true 0 [] h.taken };
+    ghost right = { λ hand. known false true 0 [] hand.taken };
 }
 
 // How the knowledge for the receiving end is joined with that for the sending end, and split off again.
@@ -47,16 +47,17 @@ impl<M> Split<Known<M>> for Sides {
     ghost use Rattle.std.specs.Prelude.{true, false, []};
     ghost use Rattle.mailbox_rule.specs.Rule.{known};
 
-    ghost left = { λ h. known true false h.room h.puts [] };
+    ghost left = { λ hand. known true false hand.room hand.puts [] };
 
-    ghost right = { λ h. known false true 0 [] h.taken };
+    ghost right = { λ hand. known false true 0 [] hand.taken };
 }
 
 impl<M> Join<Known<M>> for Sides {
     ghost use Rattle.std.specs.Prelude.{true, false, []};
     ghost use Rattle.mailbox_rule.specs.Rule.{known};
 
-    ghost both = { λ h k. known true true h.room h.puts k.taken };
+    ghost both = { λ put_hand take_hand.
+        known true true put_hand.room put_hand.puts take_hand.taken };
 
     ghost spent = { known false false 0 [] [] };
 }
@@ -65,27 +66,30 @@ impl<M> Join<Known<M>> for Sides {
 pub struct Puts;
 
 impl<M> Outcome<M, Known<M>> for Puts {
-    ghost then = { λ h m k. k ≡ known h.may_put h.may_take h.room (h.puts ++ m ∷ []) h.taken };
+    ghost then = { λ hand message next_hand. next_hand
+        ≡ known hand.may_put hand.may_take hand.room (hand.puts ++ message ∷ []) hand.taken };
 }
 
 impl<M> Lesson<M, Known<M>> for Puts {
-    ghost fact = { λ h items. length items ≤ length h.puts };
+    ghost fact = { λ hand waiting. length waiting ≤ length hand.puts };
 }
 
 // A message that is taken stood in front of all waiting messages.
 pub struct Takes;
 
 impl<M> Outcome<M, Known<M>> for Takes {
-    ghost then = { λ h m k. k ≡ known h.may_put h.may_take h.room h.puts (h.taken ++ m ∷ []) };
+    ghost then = { λ hand message next_hand. next_hand
+        ≡ known hand.may_put hand.may_take hand.room hand.puts (hand.taken ++ message ∷ []) };
 }
 
 impl<M> Lesson<M, Known<M>> for Takes {
-    ghost fact = { λ h items. Unit {0} };
+    ghost fact = { λ hand waiting. Unit {0} };
 }
 
 // What is known about the waiting messages if the messages put and the messages taken are both known.
 pub struct Whole;
 
 impl<M> Lesson<M, Known<M>> for Whole {
-    ghost fact = { λ h items. (h.puts ≡ h.taken ++ items) × (length items ≤ h.room) };
+    ghost fact = { λ hand waiting.
+        (hand.puts ≡ hand.taken ++ waiting) × (length waiting ≤ hand.room) };
 }

@@ -75,11 +75,11 @@ pub fn mailbox<M: Copy + Eq, R: Wait + Copy>(
         return Err(MailFault::NoCapacity);
     }
     let (sender, receiver, mut pass) = bounded_with(alloc, capacity as usize)?;
-    let other = sender.another::<Brand>(&mut pass);
+    let take_pass = sender.another::<Brand>(&mut pass);
     let put = RuledPut { sender, pass, rt };
     let take = RuledTake {
         receiver,
-        pass: other,
+        pass: take_pass,
         rt,
     };
     Ok((put, take))
@@ -94,17 +94,18 @@ impl<M: Copy, R: Wait + Copy> PutEnd<M> for RuledPut<M, R> {
     ghost may_go = { λ _. Unit {0} };
 
     #[inline(always)]
-    fn put(&mut self, m: M) -> PutReply<M>
+    fn put(&mut self, message: M) -> PutReply<M>
         ensures { MatchPut result
-            (self.new ≡ record self.old { puts = self.old.puts ++ m ∷ [] })
-            (λ back. (back ≡ m) × (self.new ≡ self.old) × (self.old.room ≤ length self.old.puts))
-            (λ back. (back ≡ m) × (self.new ≡ self.old)) }
+            (self.new ≡ record self.old { puts = self.old.puts ++ message ∷ [] })
+            (λ returned. (returned ≡ message) × (self.new ≡ self.old)
+            × (self.old.room ≤ length self.old.puts))
+            (λ returned. (returned ≡ message) × (self.new ≡ self.old)) }
     {
         let Self { sender, pass, rt } = self;
-        match sender.try_send_as::<Puts, R>(rt, pass, m) {
+        match sender.try_send_as::<Puts, R>(rt, pass, message) {
             Ok(()) => PutReply::Done,
-            Err(TrySendError::Full(back)) => PutReply::Full(back),
-            Err(TrySendError::Disconnected(back)) => PutReply::Gone(back),
+            Err(TrySendError::Full(returned)) => PutReply::Full(returned),
+            Err(TrySendError::Disconnected(returned)) => PutReply::Gone(returned),
             Err(TrySendError::OutOfMemory(_)) => unreachable!(),
         }
     }
@@ -120,13 +121,13 @@ impl<M: Copy, R: Wait + Copy> TakeEnd<M> for RuledTake<M, R> {
     #[inline(always)]
     fn take(&mut self) -> TakeReply<M>
         ensures { MatchTake result
-            (λ m. self.new ≡ record self.old { taken = self.old.taken ++ m ∷ [] })
+            (λ message. self.new ≡ record self.old { taken = self.old.taken ++ message ∷ [] })
             (self.new ≡ self.old)
             (self.new ≡ self.old) }
     {
         let Self { receiver, pass, rt } = self;
         match receiver.try_recv_as::<Takes, R>(rt, pass) {
-            Ok(m) => TakeReply::Got(m),
+            Ok(message) => TakeReply::Got(message),
             Err(TryRecvError::Empty) => TakeReply::Nothing,
             Err(TryRecvError::Disconnected) => TakeReply::Gone,
         }
@@ -149,17 +150,17 @@ pub fn agree<M: Copy, R: Wait + Copy>(
     } = put;
     let RuledTake {
         receiver,
-        pass: other,
-        rt: other_rt,
+        pass: take_pass,
+        rt: take_rt,
     } = take;
-    sender.absorb::<Sides>(&mut pass, other);
+    sender.absorb::<Sides>(&mut pass, take_pass);
     sender.learn_as::<Whole>(&mut pass);
-    let other = sender.another::<Sides>(&mut pass);
+    let take_pass = sender.another::<Sides>(&mut pass);
     let put = RuledPut { sender, pass, rt };
     let take = RuledTake {
         receiver,
-        pass: other,
-        rt: other_rt,
+        pass: take_pass,
+        rt: take_rt,
     };
     (put, take)
 }

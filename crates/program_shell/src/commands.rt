@@ -10,13 +10,13 @@ use std::alloc::{AllocError, Global};
 pub fn described<'a>(
     alloc: Global,
     name: &'a str,
-    call: &'a str,
+    usage: &'a str,
     about: &'a str,
     help: &'a str,
 ) -> Command<'a>
     ensures { app_of result ≡ new_app name.entry.now }
 {
-    let command = Command::new(alloc, name).override_usage(call);
+    let command = Command::new(alloc, name).override_usage(usage);
     command.about(about).after_help(help)
 }
 
@@ -41,8 +41,8 @@ pub fn with_command<'a>(
     command: Command<'a>,
 ) -> Result<Command<'a>, AllocError>
     requires { (app_of command).top.is_plain ≡ true }
-    ensures { IfOk result (λ both.
-        app_of both ≡ with_subcommand (app_of program.entry) (app_of command.entry).top) }
+    ensures { IfOk result (λ extended.
+        app_of extended ≡ with_subcommand (app_of program.entry) (app_of command.entry).top) }
 {
     program.subcommand(command)
 }

@@ -28,12 +28,12 @@ pub fn texts_of(words: io::Result<Vec<String>>) -> Result<Vec<String>, UsageFaul
 pub fn refuse<T: Print + Eprint>(console: &T, fault: &UsageFault) -> ExitCode
     ensures { IsRefusedStatus fault.now (exit_status_in result) }
 {
-    let is_told = match fault {
+    let is_printed = match fault {
         UsageFault::Line(LineFault::Line(error)) => error.print(console).is_ok(),
         fault => eprintln!(console; "residency: {fault}").is_ok(),
     };
     let status = usage_status(fault);
-    if status == 0 && !is_told {
+    if status == 0 && !is_printed {
         let _ = eprintln!(console; "residency: {}", DocketFault::Write);
         return ExitCode::from(1);
     }

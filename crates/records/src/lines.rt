@@ -9,17 +9,17 @@ use csv::ByteRecord;
 use std::alloc::AllocError;
 
 // Whether a field that has this byte is written between quotes.
-fn is_marked(b: u8) -> bool
-    ensures { result ≡ needs_byte default_writer b }
+fn is_marked(byte: u8) -> bool
+    ensures { result ≡ needs_byte default_writer byte }
 {
-    b == b',' || b == b'"' || b == b'\r' || b == b'\n'
+    byte == b',' || byte == b'"' || byte == b'\r' || byte == b'\n'
 }
 
 // Whether this field is written between quotes.
 fn is_quoted(field: &[u8]) -> bool
     ensures { result ≡ needs_quotes default_writer field.now }
 {
-    field.iter().any(|b| is_marked(*b))
+    field.iter().any(|byte| is_marked(*byte))
 }
 
 // Adds these bytes to the text.
@@ -66,12 +66,12 @@ fn put_field(text: &mut Vec<u8>, field: &[u8]) -> Result<(), AllocError>
     }
 }
 
-// Adds a comma in front of field `place`, unless the field is the first.
+// Adds a comma in front of field `field_index`, unless the field is the first.
 #[inline]
-fn put_comma(text: &mut Vec<u8>, place: usize) -> Result<(), AllocError>
-    ensures { OnOk result (Grows text.old text.new (next_sep default_writer place)) }
+fn put_comma(text: &mut Vec<u8>, field_index: usize) -> Result<(), AllocError>
+    ensures { OnOk result (Grows text.old text.new (next_sep default_writer field_index)) }
 {
-    match place {
+    match field_index {
         0 => Ok(()),
         _ => put(text, b","),
     }

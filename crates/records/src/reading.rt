@@ -35,13 +35,13 @@ pub fn field(row: &ByteRecord, i: usize) -> &[u8]
 /// reader gets an empty header row, and reads the first record like any other record.
 pub fn reader_over<R: Read + Drop>(
     alloc: Global,
-    mark: u8,
+    delimiter: u8,
     source: R,
 ) -> Result<Reader<R>, AllocError>
     ensures reading { IfOk result IsSource }
-    ensures config { IfOk result (λ reader. reader_config reader ≡ marked mark) }
+    ensures config { IfOk result (λ reader. reader_config reader ≡ marked delimiter) }
     ensures left { IfOk result (λ reader.
-        rows_left R.remaining reader ≡ option_map (rows_by mark) (R.remaining source)) }
+        rows_left R.remaining reader ≡ option_map (rows_by delimiter) (R.remaining source)) }
 
     // No record was read, and all bytes are left, apart from a byte order mark.
     ensures state { IfOk result (λ reader. reader_state reader ≡ st.StartRecord) }
@@ -49,7 +49,7 @@ pub fn reader_over<R: Read + Drop>(
         source_of R.remaining reader ≡ option_map strip_bom (R.remaining source)) }
 {
     let mut reader = ReaderBuilder::new()
-        .delimiter(mark)
+        .delimiter(delimiter)
         .flexible(true)
         .from_reader(alloc, source);
     let Ok(()) = reader.set_byte_headers(ByteRecord::new(alloc)) else {
@@ -61,17 +61,17 @@ pub fn reader_over<R: Read + Drop>(
 /// Reads the next record, and returns whether there was one.
 pub fn next_row<R: Read>(reader: &mut Reader<R>, row: &mut ByteRecord) -> Result<bool, ReadFailed>
     requires reading { IsSource reader.old }
-    ensures reading { IfOk result (λ found. found ≡ true → IsSource reader.new) }
-    ensures gives { IfOk result (λ found. GivesRow (rows_left R.remaining reader.old)
-        (rows_left R.remaining reader.new) found (fields_of row.new)) }
+    ensures reading { IfOk result (λ has_row. has_row ≡ true → IsSource reader.new) }
+    ensures gives { IfOk result (λ has_row. GivesRow (rows_left R.remaining reader.old)
+        (rows_left R.remaining reader.new) has_row (fields_of row.new)) }
 
     // What the read does by the contracts of `csv`, whether or not the bytes are known.
-    ensures reads { IfOk result (λ found.
-        ReadRecord R.remaining reader.old reader.new found (fields_of row.new)) }
+    ensures reads { IfOk result (λ has_row.
+        ReadRecord R.remaining reader.old reader.new has_row (fields_of row.new)) }
 {
-    let read = reader.read_byte_record(row);
-    match &read {
-        Ok(found) => Ok(*found),
+    let read_result = reader.read_byte_record(row);
+    match &read_result {
+        Ok(has_row) => Ok(*has_row),
         Err(error) => match error.kind() {
             ErrorKind::Io(_) => Err(ReadFailed::Source),
             // a reader that accepts records of any length, read as bytes, returns only the last of these errors

@@ -27,7 +27,7 @@ fn read_again<R: Read>(reader: &mut R, buf: &mut [u8]) -> io::Result<usize>
 {
     for _ in 0..u64::MAX {
         match reader.read(buf) {
-            Ok(count) => return Ok(count),
+            Ok(bytes_read) => return Ok(bytes_read),
             Err(error) => {
                 if !is_interrupted(&error) {
                     return Err(error);

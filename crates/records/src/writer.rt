@@ -7,7 +7,7 @@ use std::alloc::{AllocError, Global};
 use std::io::Write;
 
 // The greatest number of bytes in the buffer.
-const ROOM: usize = 16_384;
+const BUFFER_BYTES: usize = 16_384;
 
 /// The writer failed.
 #[derive(Clone, Copy, Debug, PartialEq, Eq)]
@@ -17,7 +17,7 @@ pub struct WriteFailed;
 pub fn room_for_rows(alloc: Global) -> Result<Vec<u8>, AllocError>
     ensures { IfOk result (λ room. room.items ≡ []) }
 {
-    let room = Vec::with_capacity(alloc, ROOM)?;
+    let room = Vec::with_capacity(alloc, BUFFER_BYTES)?;
     Ok(room)
 }
 
@@ -29,17 +29,17 @@ pub struct RowWriter<'a, W> {
 }
 
 // Whether a field that has this byte is written between quotes.
-fn is_marked(b: u8) -> bool
-    ensures { result ≡ needs_byte row_setup b }
+fn is_marked(byte: u8) -> bool
+    ensures { result ≡ needs_byte row_setup byte }
 {
-    b == b',' || b == b'"' || b == b'\r' || b == b'\n'
+    byte == b',' || byte == b'"' || byte == b'\r' || byte == b'\n'
 }
 
 // Whether this field is written between quotes.
 fn is_quoted(field: &[u8]) -> bool
     ensures { result ≡ needs_quotes row_setup field.now }
 {
-    field.iter().any(|b| is_marked(*b))
+    field.iter().any(|byte| is_marked(*byte))
 }
 
 // Whether a row of these fields would be written as an empty line. In such a row two quotes stand for the one empty
@@ -68,7 +68,7 @@ impl<'a, W: Write> RowWriter<'a, W> {
     // longer than the buffer. This is a function of its own, so that only `put`'s test for room is inlined.
     #[cold]
     #[inline(never)]
-    fn put_past(&mut self, bytes: &[u8]) -> Result<(), WriteFailed>
+    fn flush_and_put(&mut self, bytes: &[u8]) -> Result<(), WriteFailed>
         ensures { OnOk result (Adds W.contents self.old self.new bytes.now) }
     {
         let Ok(()) = self.writer.write_all(self.buffer.as_slice()) else {
@@ -94,7 +94,7 @@ impl<'a, W: Write> RowWriter<'a, W> {
         ensures { OnOk result (Adds W.contents self.old self.new bytes.now) }
     {
         if bytes.len() > self.buffer.capacity() - self.buffer.len() {
-            return self.put_past(bytes);
+            return self.flush_and_put(bytes);
         }
         let Ok(()) = self.buffer.extend_from_slice(bytes) else {
             unreachable!("there is room")
@@ -138,12 +138,12 @@ impl<'a, W: Write> RowWriter<'a, W> {
         }
     }
 
-    // Adds a comma before field `place`, unless the field is the first.
+    // Adds a comma before field `field_index`, unless the field is the first.
     #[inline]
-    fn put_comma(&mut self, place: usize) -> Result<(), WriteFailed>
-        ensures { OnOk result (Adds W.contents self.old self.new (next_sep row_setup place)) }
+    fn put_comma(&mut self, field_index: usize) -> Result<(), WriteFailed>
+        ensures { OnOk result (Adds W.contents self.old self.new (next_sep row_setup field_index)) }
     {
-        match place {
+        match field_index {
             0 => Ok(()),
             _ => self.put(b","),
         }

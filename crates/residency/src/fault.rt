@@ -41,7 +41,7 @@ impl From<AnswerFault> for ServeFault {
     ghost use Rattle.std.specs.Prelude.{◌≡◌};
     ghost use Rattle.residency.specs.Told.{fault_told};
 
-    ghost from_gives = { λ told fault. fault ≡ fault_told told };
+    ghost from_gives = { λ answer_fault fault. fault ≡ fault_told answer_fault };
 
     fn from(fault: AnswerFault) -> ServeFault {
         match fault {

@@ -7,7 +7,7 @@ ghost use Rattle.audit_text.specs.Serving.{IsWriteFault};
 ghost use Rattle.residency.specs.Serving.{WritesMatch, wanted_match, wanted_journal, WritesReport, WritesReplay, IsMatchFault, IsAuditFault, IsReplayFault, AreDocket, IsFaultOf, IsBeforeWriting, IsAnswerWithin, IsOrderFault, Serves};
 
 use crate::fault::{LimitsFault, ServeFault};
-use crate::spent::Spent;
+use crate::spent::SpentMemory;
 use crate::status::Status;
 use audit_text::{audit_docket, replay_docket};
 use command_line::{JournalForm, MatchOptions, Order};
@@ -26,22 +26,24 @@ use std::sync::Wait;
 use std::thread::Threads;
 
 // Adds the journal of an exchange, in the form that the options ask for.
-fn push_wanted<W: Write>(
+fn push_wanted_journal<W: Write>(
     rows: &mut RowWriter<'_, W>,
     docket: &Docket,
     journal: &[Event],
-    by: &ByWorker,
+    by_worker: &ByWorker,
     options: &MatchOptions,
 ) -> Result<(), WriteFailed>
     requires journal { All (NamesMembers docket.now.instance) journal.now }
-    requires by { IsByWorker journal.now by.now }
+    requires by { IsByWorker journal.now by_worker.now }
     ensures { OnOk result (Adds W.contents rows.old rows.new
-        (wanted_journal docket.now options.now journal.now by.now)) }
+        (wanted_journal docket.now options.now journal.now by_worker.now)) }
 {
     match options.journal {
         JournalForm::Absent => Ok(()),
         JournalForm::Plain => push_journal(rows, docket, options.capacity, journal, None),
-        JournalForm::ByWorker => { push_journal(rows, docket, options.capacity, journal, Some(by)) }
+        JournalForm::ByWorker => {
+            push_journal(rows, docket, options.capacity, journal, Some(by_worker))
+        }
     }
 }
 
@@ -53,22 +55,22 @@ fn write_match<W: Write>(
     docket: &Docket,
     assignment: &Assignment,
     journal: &[Event],
-    by: &ByWorker,
+    by_worker: &ByWorker,
     options: &MatchOptions,
     writer: &mut W,
 ) -> Result<(), DocketFault>
     requires sheet { IsSheetOf docket.now assignment.now }
     requires journal { All (NamesMembers docket.now.instance) journal.now }
-    requires by { IsByWorker journal.now by.now }
+    requires by { IsByWorker journal.now by_worker.now }
     ensures text { OnOk result (Writes W.contents writer.old writer.new
-        (wanted_match docket.now options.now assignment.now journal.now by.now)) }
+        (wanted_match docket.now options.now assignment.now journal.now by_worker.now)) }
     ensures fault { IfErr result IsWriteFault }
     ensures before { IfErr result (λ fault. fault ≢ DocketFault.Write → writer.new ≡ writer.old) }
 {
-    let mut room = room_for_rows(alloc)?;
-    let mut rows = RowWriter::new(writer, &mut room);
+    let mut row_buffer = room_for_rows(alloc)?;
+    let mut rows = RowWriter::new(writer, &mut row_buffer);
     push_sheet(alloc, &mut rows, docket, assignment)?;
-    push_wanted(&mut rows, docket, journal, by, options)?;
+    push_wanted_journal(&mut rows, docket, journal, by_worker, options)?;
     rows.send()?;
     Ok(())
 }
@@ -81,7 +83,7 @@ fn match_docket<W, G, H>(
     writer: &mut W,
     options: &MatchOptions,
     gate: &G,
-    spent: Spent,
+    spent_memory: SpentMemory,
 ) -> Result<Status, ServeFault>
 where
     W: Write,
@@ -98,25 +100,25 @@ where
     let inst = docket.instance();
     // For the proof alone: the rankings of an instance are mutual and within the limits.
     let _instance = inst.residents();
-    let done = match run(rt, alloc, inst, options.capacity, options.workers, gate) {
-        Ok(done) => done,
+    let finished_run = match run(rt, alloc, inst, options.capacity, options.workers, gate) {
+        Ok(finished_run) => finished_run,
         Err(fault) => return Err(ServeFault::Run(fault)),
     };
-    match done.ending {
+    match finished_run.ending {
         Ending::Closed => {}
         Ending::Stopped => unreachable!("the gate may not stop a run"),
     }
-    spent.let_go(done.ends);
-    let by = ByWorker {
+    spent_memory.let_go(finished_run.ends);
+    let by_worker = ByWorker {
         workers: options.workers as u32,
-        who: done.who,
+        who: finished_run.who,
     };
     match write_match(
         alloc,
         docket,
-        &done.assignment,
-        &done.journal,
-        &by,
+        &finished_run.assignment,
+        &finished_run.journal,
+        &by_worker,
         options,
         writer,
     ) {
@@ -187,7 +189,15 @@ where
     ensures before { IfErr result (λ fault. IsBeforeWriting fault → writer.new ≡ writer.old) }
 {
     match read_docket(&rt, alloc, reader) {
-        Ok(docket) => match_docket(rt, alloc, &docket, writer, options, gate, Spent::GivenBack),
+        Ok(docket) => match_docket(
+            rt,
+            alloc,
+            &docket,
+            writer,
+            options,
+            gate,
+            SpentMemory::GivenBack,
+        ),
         Err(fault) => Err(ServeFault::Docket(fault)),
     }
 }
@@ -257,8 +267,8 @@ where
 {
     match order {
         Order::Match(options) => {
-            let spent = Spent::LeftToTheSystem;
-            match_docket(rt, alloc, docket, writer, options, gate, spent)
+            let spent_memory = SpentMemory::LeftToTheSystem;
+            match_docket(rt, alloc, docket, writer, options, gate, spent_memory)
         }
         Order::Audit => write_audit(alloc, docket, writer),
         Order::Replay => write_answer(alloc, docket, writer),
@@ -266,10 +276,10 @@ where
 }
 
 // What happens to the memory that an order took.
-fn spent_by(order: &Order) -> Spent {
+fn memory_spent_by(order: &Order) -> SpentMemory {
     match order {
-        Order::Match(_) => Spent::LeftToTheSystem,
-        Order::Audit | Order::Replay => Spent::GivenBack,
+        Order::Match(_) => SpentMemory::LeftToTheSystem,
+        Order::Audit | Order::Replay => SpentMemory::GivenBack,
     }
 }
 
@@ -301,7 +311,7 @@ where
         Err(fault) => return Err(LimitsFault::Reading(fault)),
     };
     let answer = serve_docket(rt, alloc, order, &docket, writer, gate);
-    spent_by(order).let_go(docket);
+    memory_spent_by(order).let_go(docket);
     match answer {
         Ok(status) => Ok(status),
         Err(fault) => Err(LimitsFault::Serving(fault)),

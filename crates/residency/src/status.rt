@@ -23,7 +23,7 @@ pub enum Status {
 impl From<audit_text::Status> for Status {
     ghost use Rattle.residency.specs.Told.{status_told};
 
-    ghost from_gives = { λ told status. status ≡ status_told told };
+    ghost from_gives = { λ audit_status status. status ≡ status_told audit_status };
 
     fn from(status: audit_text::Status) -> Status {
         match status {

@@ -52,9 +52,10 @@ pub(crate) fn withdrawal_row(
 ) -> Result<(Side, usize), DocketFault>
     requires kind { kind_of (fields_of row.now) ≡ WITHDRAWAL }
     ensures texts { StartsWith texts.old texts.new }
-    ensures side { IfOk result (λ gone. field_of (fields_of row.now) 1 ≡ side_text gone.0) }
-    ensures name { IfOk result (λ gone.
-        slice_get texts.new gone.1 ≡ Some (field_of (fields_of row.now) 2)) }
+    ensures side { IfOk result (λ withdrawal.
+        field_of (fields_of row.now) 1 ≡ side_text withdrawal.0) }
+    ensures name { IfOk result (λ withdrawal.
+        slice_get texts.new withdrawal.1 ≡ Some (field_of (fields_of row.now) 2)) }
     ensures kept { OnOk result ((rows : List Fields)
         → place ≡ next_place rows → AreLists texts.old lists.old rows
         → AreLists texts.new lists.new (rows ++ fields_of row.now ∷ [])) }

@@ -25,11 +25,12 @@ pub(crate) fn programme_row(
     place: u32,
 ) -> Result<(usize, u32), DocketFault>
     ensures texts { StartsWith texts.old texts.new }
-    ensures name { IfOk result (λ read.
-        slice_get texts.new read.0 ≡ Some (field_of (fields_of row.now) 1)) }
-    ensures named { IfOk result (λ read. names.is_name (field_of (fields_of row.now) 1) ≡ true) }
-    ensures quota { IfOk result (λ read.
-        names.number_of (field_of (fields_of row.now) 2) ≡ Some read.1) }
+    ensures name { IfOk result (λ name_and_quota.
+        slice_get texts.new name_and_quota.0 ≡ Some (field_of (fields_of row.now) 1)) }
+    ensures named { IfOk result (λ name_and_quota.
+        names.is_name (field_of (fields_of row.now) 1) ≡ true) }
+    ensures quota { IfOk result (λ name_and_quota.
+        names.number_of (field_of (fields_of row.now) 2) ≡ Some name_and_quota.1) }
     ensures fault { Answers (quota_row_fault place (fields_of row.now)) result }
 {
     if row.len() != 3 {
@@ -50,10 +51,10 @@ pub(crate) fn capacity_row(
     row: &ByteRecord,
     place: u32,
 ) -> Result<(Capacity, Option<u32>), DocketFault>
-    ensures capacity { IfOk result (λ read.
-        words.capacity_of (field_of (fields_of row.now) 1) ≡ Some read.0) }
-    ensures workers { IfOk result (λ read.
-        words.workers_of (field_of (fields_of row.now) 2) ≡ read.1) }
+    ensures capacity { IfOk result (λ capacity_and_workers.
+        words.capacity_of (field_of (fields_of row.now) 1) ≡ Some capacity_and_workers.0) }
+    ensures workers { IfOk result (λ capacity_and_workers.
+        words.workers_of (field_of (fields_of row.now) 2) ≡ capacity_and_workers.1) }
     ensures fault { Answers (capacity_row_fault place (fields_of row.now)) result }
 {
     if row.len() != 2 && row.len() != 3 {

@@ -1,6 +1,6 @@
 //! The second pass: the lists and the withdrawals.
 ghost use Rattle.std.specs.Prelude.{◌≡◌, ◌<◌, ◌+◌, ℕ, [], List, None, length, replicate, take, map, slice_get, Some, OnOk, IfOk, true};
-ghost use Rattle.match_model.specs.Draft.{instance_of as made_of};
+ghost use Rattle.match_model.specs.Draft.{instance_of as instance_from};
 ghost use Rattle.std.specs.List.{list_all};
 ghost use Rattle.std.specs.Option.{option_or};
 ghost use Rattle.docket.specs.Answers.{Answers};
@@ -222,28 +222,28 @@ fn withdraw_resident(
 fn rank_row(
     alloc: Global,
     lists: &Lists,
-    j: usize,
+    row_index: usize,
     programmes: &Members,
     residents: &Members,
     builder: &mut InstanceBuilder,
     programme_lists: &mut ProgrammeLists,
-    of_programme: &mut Vec<ResidentNo>,
-    of_resident: &mut Vec<ProgrammeNo>,
+    listed_by_programme: &mut Vec<ResidentNo>,
+    listed_by_resident: &mut Vec<ProgrammeNo>,
 ) -> Result<(), DocketFault>
-    requires { j < length lists.now.entries }
+    requires { row_index < length lists.now.entries }
     ensures ranked { OnOk result ((texts : Fields) (rows : List Fields) (k : ℕ) (entry : KeptEntry)
-        → slice_get lists.now.entries j ≡ Some entry
+        → slice_get lists.now.entries row_index ≡ Some entry
         → IsNext texts programmes.now residents.now builder.old rows k entry
         → IsRanked builder.new rows (take (k + 1) rows)) }
     ensures fault { (texts : Fields) (rows : List Fields) (k : ℕ) (entry : KeptEntry)
-        → slice_get lists.now.entries j ≡ Some entry
+        → slice_get lists.now.entries row_index ≡ Some entry
         → IsNext texts programmes.now residents.now builder.old rows k entry
         → Answers (ranking_fault rows (take k rows) (row_at rows k)) result }
     ensures limits { OnOk result (builder.new.limits ≡ builder.old.limits) }
     ensures given { OnOk result (programme_lists.old ≡ builder.old.programme_lists
         → programme_lists.new ≡ builder.new.programme_lists) }
 {
-    let row = lists.row(j);
+    let row = lists.row(row_index);
     match row.kind {
         ListKind::Ranking(Side::Programmes) => rank_residents(
             alloc,
@@ -252,10 +252,10 @@ fn rank_row(
             residents,
             builder,
             programme_lists,
-            of_programme,
+            listed_by_programme,
         ),
         ListKind::Ranking(Side::Residents) => {
-            rank_programmes(&row, programmes, residents, builder, of_resident)
+            rank_programmes(&row, programmes, residents, builder, listed_by_resident)
         }
         ListKind::Withdrawal(Side::Programmes) => { withdraw_programme(&row, programmes, builder) }
         ListKind::Withdrawal(Side::Residents) => { withdraw_resident(&row, residents, builder) }
@@ -281,8 +281,8 @@ fn rank(
     ensures given { OnOk result (programme_lists.old ≡ builder.old.programme_lists
         → programme_lists.new ≡ builder.new.programme_lists) }
 {
-    let mut of_programme = Vec::new(alloc);
-    let mut of_resident = Vec::new(alloc);
+    let mut listed_by_programme = Vec::new(alloc);
+    let mut listed_by_resident = Vec::new(alloc);
     for j in 0..lists.len() {
         rank_row(
             alloc,
@@ -292,8 +292,8 @@ fn rank(
             residents,
             builder,
             programme_lists,
-            &mut of_programme,
-            &mut of_resident,
+            &mut listed_by_programme,
+            &mut listed_by_resident,
         )?;
     }
     Ok(())
@@ -306,12 +306,12 @@ fn finished(
     programme_lists: ProgrammeLists,
     keeps_lists: bool,
 ) -> Result<(Instance, Option<(WrittenLists, ProgrammeLists)>), DocketFault>
-    ensures instance { IfOk result (λ made. (rows : List Fields)
-        → IsRanked builder rows rows → made.0 ≡ made_of (draft_of rows)) }
-    ensures lists { IfOk result (λ made. (rows : List Fields)
+    ensures instance { IfOk result (λ instance_and_lists. (rows : List Fields)
+        → IsRanked builder rows rows → instance_and_lists.0 ≡ instance_from (draft_of rows)) }
+    ensures lists { IfOk result (λ instance_and_lists. (rows : List Fields)
         → IsRanked builder rows rows
         → (keeps_lists ≡ true → programme_lists ≡ builder.programme_lists)
-        → made.1 ≡ lists_if keeps_lists rows) }
+        → instance_and_lists.1 ≡ lists_if keeps_lists rows) }
     ensures fault { (rows : List Fields) → IsRanked builder rows rows
         → records ≡ length rows → Answers (pairs_fault builder.limits rows) result }
 {
@@ -329,7 +329,7 @@ fn no_lists(
     keeps_lists: bool,
 ) -> Result<ProgrammeLists, AllocError>
     ensures { keeps_lists ≡ true
-        → IfOk result (λ given. given ≡ replicate (length programmes.now) None) }
+        → IfOk result (λ lists. lists ≡ replicate (length programmes.now) None) }
 {
     ProgrammeLists::none(alloc, if keeps_lists { programmes.len() } else { 0 })
 }
@@ -345,12 +345,14 @@ pub(crate) fn instance_of(
     mut builder: InstanceBuilder,
     keeps_lists: bool,
 ) -> Result<(Instance, Option<(WrittenLists, ProgrammeLists)>), DocketFault>
-    ensures instance { IfOk result (λ made. (texts : Fields) (rows : List Fields)
+    ensures instance { IfOk result (λ instance_and_lists. (texts : Fields) (rows : List Fields)
         → AreLists texts lists.now rows → AreKnown texts programmes.now residents.now rows
-        → IsRanked builder rows [] → records ≡ length rows → made.0 ≡ made_of (draft_of rows)) }
-    ensures lists { IfOk result (λ made. (texts : Fields) (rows : List Fields)
+        → IsRanked builder rows [] → records ≡ length rows
+        → instance_and_lists.0 ≡ instance_from (draft_of rows)) }
+    ensures lists { IfOk result (λ instance_and_lists. (texts : Fields) (rows : List Fields)
         → AreLists texts lists.now rows → AreKnown texts programmes.now residents.now rows
-        → IsRanked builder rows [] → records ≡ length rows → made.1 ≡ lists_if keeps_lists rows) }
+        → IsRanked builder rows [] → records ≡ length rows
+        → instance_and_lists.1 ≡ lists_if keeps_lists rows) }
     ensures fault { (texts : Fields) (rows : List Fields)
         → AreLists texts lists.now rows → AreKnown texts programmes.now residents.now rows
         → IsRanked builder rows [] → records ≡ length rows → Answers (option_or

@@ -37,7 +37,7 @@ fn all_set(flags: &[bool]) -> bool
 }
 
 // The member whose name is the text with this number.
-fn known(members: &Members, text: u32, place: u32) -> Result<u32, DocketFault>
+fn known_member(members: &Members, text: u32, place: u32) -> Result<u32, DocketFault>
     ensures member { IfOk result (λ member. position (nat_eq text) members.now ≡ Some member) }
     ensures below { IfOk result (λ member. member < length members.now) }
     ensures fault { Answers (unless
@@ -58,7 +58,7 @@ struct Marks {
     // For each programme, whether an F row of this programme was read.
     filled: Vec<bool>,
     // For each programme, the number of M rows with this programme.
-    counts: Vec<u32>,
+    matched_counts: Vec<u32>,
 }
 
 impl Marks {
@@ -69,20 +69,20 @@ impl Marks {
         ensures blank { IfOk result (λ marks. IsBlank marks programmes residents) }
         ensures memory { IfErr result (λ e. e ≡ DocketFault.Memory) }
     {
-        let Ok(count) = u32::try_from(residents) else {
+        let Ok(resident_count) = u32::try_from(residents) else {
             return Err(DocketFault::Memory);
         };
-        let Ok(sheet) = Assignment::new(alloc, count) else {
+        let Ok(sheet) = Assignment::new(alloc, resident_count) else {
             return Err(DocketFault::Memory);
         };
         let marked = flags(alloc, residents)?;
         let filled = flags(alloc, programmes)?;
-        let counts = zeros(alloc, programmes)?;
+        let matched_counts = zeros(alloc, programmes)?;
         Ok(Marks {
             sheet,
             marked,
             filled,
-            counts,
+            matched_counts,
         })
     }
 
@@ -98,22 +98,26 @@ impl Marks {
         requires sizes { IsSized self.old (length programmes.now) (length residents.now) }
         ensures sizes { OnOk result
             (IsSized self.new (length programmes.now) (length residents.now)) }
-        ensures marked { OnOk result ((texts : Fields) (all before : List Fields) (row : Fields)
-            → StandsAfter texts programmes.now residents.now all before place
+        ensures marked { OnOk result ((texts : Fields) (all_rows rows_before : List Fields)
+            (row : Fields)
+            → StandsAfter texts programmes.now residents.now all_rows rows_before place
             (Mark.Matched resident programme) row
-            → IsMarked self.old all before → IsMarked self.new all (before ++ row ∷ [])) }
-        ensures fault { (texts : Fields) (all before : List Fields) (row : Fields)
-            → StandsAfter texts programmes.now residents.now all before place
+            → IsMarked self.old all_rows rows_before
+            → IsMarked self.new all_rows (rows_before ++ row ∷ [])) }
+        ensures fault { (texts : Fields) (all_rows rows_before : List Fields) (row : Fields)
+            → StandsAfter texts programmes.now residents.now all_rows rows_before place
             (Mark.Matched resident programme) row
-            → IsMarked self.old all before → Answers (mark_fault all before row) result }
+            → IsMarked self.old all_rows rows_before
+            → Answers (mark_fault all_rows rows_before row) result }
     {
-        let resident = known(residents, resident, place)?;
-        let programme = known(programmes, programme, place)?;
+        let resident = known_member(residents, resident, place)?;
+        let programme = known_member(programmes, programme, place)?;
         if self.marked[resident as usize] {
             return Err(DocketFault::BadSheet { place });
         }
         self.marked[resident as usize] = true;
-        self.counts[programme as usize] = self.counts[programme as usize].saturating_add(1);
+        self.matched_counts[programme as usize] =
+            self.matched_counts[programme as usize].saturating_add(1);
         self.sheet
             .set(ResidentNo(resident), Some(ProgrammeNo(programme)));
         Ok(())
@@ -130,16 +134,18 @@ impl Marks {
         ensures sizes { (programmes : ℕ) → IsSized self.old programmes (length residents.now)
             → OnOk result (IsSized self.new programmes (length residents.now)) }
         ensures marked { (programmes : List ℕ)
-            → OnOk result ((texts : Fields) (all before : List Fields) (row : Fields)
-            → StandsAfter texts programmes residents.now all before place
+            → OnOk result ((texts : Fields) (all_rows rows_before : List Fields) (row : Fields)
+            → StandsAfter texts programmes residents.now all_rows rows_before place
             (Mark.Unmatched resident) row
-            → IsMarked self.old all before → IsMarked self.new all (before ++ row ∷ [])) }
-        ensures fault { (programmes : List ℕ) (texts : Fields) (all before : List Fields)
-            (row : Fields) → StandsAfter texts programmes residents.now all before place
+            → IsMarked self.old all_rows rows_before
+            → IsMarked self.new all_rows (rows_before ++ row ∷ [])) }
+        ensures fault { (programmes : List ℕ) (texts : Fields) (all_rows rows_before : List Fields)
+            (row : Fields) → StandsAfter texts programmes residents.now all_rows rows_before place
             (Mark.Unmatched resident) row
-            → IsMarked self.old all before → Answers (mark_fault all before row) result }
+            → IsMarked self.old all_rows rows_before
+            → Answers (mark_fault all_rows rows_before row) result }
     {
-        let resident = known(residents, resident, place)?;
+        let resident = known_member(residents, resident, place)?;
         if self.marked[resident as usize] {
             return Err(DocketFault::BadSheet { place });
         }
@@ -159,17 +165,20 @@ impl Marks {
         ensures sizes { (residents : ℕ) → IsSized self.old (length programmes.now) residents
             → OnOk result (IsSized self.new (length programmes.now) residents) }
         ensures marked { (filled quota : ℕ) (residents : List ℕ)
-            → OnOk result ((texts : Fields) (all before : List Fields) (row : Fields)
-            → StandsAfter texts programmes.now residents all before place
+            → OnOk result ((texts : Fields) (all_rows rows_before : List Fields) (row : Fields)
+            → StandsAfter texts programmes.now residents all_rows rows_before place
             (Mark.Filled programme filled quota) row
-            → IsMarked self.old all before → IsMarked self.new all (before ++ row ∷ [])) }
+            → IsMarked self.old all_rows rows_before
+            → IsMarked self.new all_rows (rows_before ++ row ∷ [])) }
         ensures fault { (filled quota : ℕ)
-            (residents : List ℕ) (texts : Fields) (all before : List Fields) (row : Fields)
-            → StandsAfter texts programmes.now residents all before place
+            (residents : List ℕ) (texts : Fields) (all_rows rows_before : List Fields)
+            (row : Fields)
+            → StandsAfter texts programmes.now residents all_rows rows_before place
             (Mark.Filled programme filled quota) row
-            → IsMarked self.old all before → Answers (mark_fault all before row) result }
+            → IsMarked self.old all_rows rows_before
+            → Answers (mark_fault all_rows rows_before row) result }
     {
-        let programme = known(programmes, programme, place)?;
+        let programme = known_member(programmes, programme, place)?;
         if self.filled[programme as usize] {
             return Err(DocketFault::BadSheet { place });
         }
@@ -187,12 +196,17 @@ impl Marks {
         requires sizes { IsSized self.old (length programmes.now) (length residents.now) }
         ensures sizes { OnOk result
             (IsSized self.new (length programmes.now) (length residents.now)) }
-        ensures marked { OnOk result ((texts : Fields) (all before : List Fields) (row : Fields)
-            → StandsAfter texts programmes.now residents.now all before kept.place kept.mark row
-            → IsMarked self.old all before → IsMarked self.new all (before ++ row ∷ [])) }
-        ensures fault { (texts : Fields) (all before : List Fields) (row : Fields)
-            → StandsAfter texts programmes.now residents.now all before kept.place kept.mark row
-            → IsMarked self.old all before → Answers (mark_fault all before row) result }
+        ensures marked { OnOk result ((texts : Fields) (all_rows rows_before : List Fields)
+            (row : Fields)
+            → StandsAfter texts programmes.now residents.now all_rows rows_before
+            kept.place kept.mark row
+            → IsMarked self.old all_rows rows_before
+            → IsMarked self.new all_rows (rows_before ++ row ∷ [])) }
+        ensures fault { (texts : Fields) (all_rows rows_before : List Fields) (row : Fields)
+            → StandsAfter texts programmes.now residents.now all_rows rows_before
+            kept.place kept.mark row
+            → IsMarked self.old all_rows rows_before
+            → Answers (mark_fault all_rows rows_before row) result }
     {
         let place = kept.place;
         match kept.mark {
@@ -215,12 +229,15 @@ impl Marks {
         requires sizes { IsSized self.old (length programmes.now) (length residents.now) }
         ensures sizes { OnOk result
             (IsSized self.new (length programmes.now) (length residents.now)) }
-        ensures marked { OnOk result ((texts : Fields) (all : List Fields)
-            → AreSheetRows texts rows.now all → AreKnown texts programmes.now residents.now all
-            → IsMarked self.old all [] → IsMarked self.new all all) }
-        ensures fault { (texts : Fields) (all : List Fields)
-            → AreSheetRows texts rows.now all → AreKnown texts programmes.now residents.now all
-            → IsMarked self.old all [] → Answers (first_from (mark_fault all) [] all) result }
+        ensures marked { OnOk result ((texts : Fields) (all_rows : List Fields)
+            → AreSheetRows texts rows.now all_rows
+            → AreKnown texts programmes.now residents.now all_rows
+            → IsMarked self.old all_rows [] → IsMarked self.new all_rows all_rows) }
+        ensures fault { (texts : Fields) (all_rows : List Fields)
+            → AreSheetRows texts rows.now all_rows
+            → AreKnown texts programmes.now residents.now all_rows
+            → IsMarked self.old all_rows []
+            → Answers (first_from (mark_fault all_rows) [] all_rows) result }
     {
         for kept in rows {
             self.add_row(programmes, residents, *kept)?;
@@ -238,13 +255,17 @@ impl Marks {
 
     // Whether a kept row agrees with the number of M rows and with the quota, if the row is an F row.
     fn is_right(&self, programmes: &Members, kept: SheetRow, instance: &Instance) -> bool
-        requires sizes { length self.now.counts.items ≡ length programmes.now }
+        requires sizes { length self.now.matched_counts.items ≡ length programmes.now }
         requires quotas { length instance.now.quotas ≡ length programmes.now }
-        ensures { (texts : Fields) (residents : List ℕ) (all before : List Fields) (row : Fields)
-            → StandsAfter texts programmes.now residents all before kept.place kept.mark row
-            → IsMarked self.now all all
-            → instance.now.quotas ≡ quotas_of all → first_from (mark_fault all) [] all ≡ None
-            → filled_fault all before row ≡ unless result (DocketFault.BadSheet kept.place) }
+        ensures { (texts : Fields) (residents : List ℕ) (all_rows rows_before : List Fields)
+            (row : Fields)
+            → StandsAfter texts programmes.now residents all_rows rows_before
+            kept.place kept.mark row
+            → IsMarked self.now all_rows all_rows
+            → instance.now.quotas ≡ quotas_of all_rows
+            → first_from (mark_fault all_rows) [] all_rows ≡ None
+            → filled_fault all_rows rows_before row ≡ unless result
+            (DocketFault.BadSheet kept.place) }
     {
         let Mark::Filled {
             programme,
@@ -258,7 +279,8 @@ impl Marks {
         let Some(programme) = programmes.member(programme as usize) else {
             return false;
         };
-        filled == self.counts[programme as usize] && quota == instance.quota(ProgrammeNo(programme))
+        filled == self.matched_counts[programme as usize]
+            && quota == instance.quota(ProgrammeNo(programme))
     }
 
     // The third walk over the rows: it finds the first F row whose numbers are wrong.
@@ -268,12 +290,14 @@ impl Marks {
         programmes: &Members,
         instance: &Instance,
     ) -> Result<(), DocketFault>
-        requires sizes { length self.now.counts.items ≡ length programmes.now }
+        requires sizes { length self.now.matched_counts.items ≡ length programmes.now }
         requires quotas { length instance.now.quotas ≡ length programmes.now }
-        ensures { (texts : Fields) (residents : List ℕ) (all : List Fields)
-            → AreSheetRows texts rows.now all → AreKnown texts programmes.now residents all
-            → IsMarked self.now all all → instance.now.quotas ≡ quotas_of all → first_from
-            (mark_fault all) [] all ≡ None → Answers (first_from (filled_fault all) [] all) result }
+        ensures { (texts : Fields) (residents : List ℕ) (all_rows : List Fields)
+            → AreSheetRows texts rows.now all_rows
+            → AreKnown texts programmes.now residents all_rows
+            → IsMarked self.now all_rows all_rows → instance.now.quotas ≡ quotas_of all_rows
+            → first_from (mark_fault all_rows) [] all_rows ≡ None
+            → Answers (first_from (filled_fault all_rows) [] all_rows) result }
     {
         for kept in rows {
             if !self.is_right(programmes, *kept, instance) {
@@ -294,12 +318,15 @@ pub(crate) fn sheet_of(
     instance: &Instance,
 ) -> Result<Assignment, DocketFault>
     requires quotas { length instance.now.quotas ≡ length programmes.now }
-    ensures sheet { IfOk result (λ sheet. (texts : Fields) (all : List Fields)
-        → AreSheetRows texts rows.now all → AreKnown texts programmes.now residents.now all
-        → instance.now.quotas ≡ quotas_of all → records ≡ length all → sheet ≡ placement_of all) }
-    ensures fault { (texts : Fields) (all : List Fields) → AreSheetRows texts rows.now all
-        → AreKnown texts programmes.now residents.now all → instance.now.quotas ≡ quotas_of all
-        → records ≡ length all → Answers (placement_fault all) result }
+    ensures sheet { IfOk result (λ sheet. (texts : Fields) (all_rows : List Fields)
+        → AreSheetRows texts rows.now all_rows
+        → AreKnown texts programmes.now residents.now all_rows
+        → instance.now.quotas ≡ quotas_of all_rows → records ≡ length all_rows
+        → sheet ≡ placement_of all_rows) }
+    ensures fault { (texts : Fields) (all_rows : List Fields) → AreSheetRows texts rows.now all_rows
+        → AreKnown texts programmes.now residents.now all_rows
+        → instance.now.quotas ≡ quotas_of all_rows
+        → records ≡ length all_rows → Answers (placement_fault all_rows) result }
 {
     let mut marks = Marks::new(alloc, programmes.len(), residents.len())?;
     marks.add_rows(rows.rows(), programmes, residents)?;

@@ -52,7 +52,7 @@ pub(crate) struct Lists {
     rows: Vec<KeptRow>,
     names: Vec<u32>,
     // How many new texts these rows brought.
-    brought: usize,
+    new_names: usize,
 }
 
 impl Model for Lists {
@@ -62,7 +62,7 @@ impl Model for Lists {
     ghost Value = { KeptLists };
 
     ghost view = { λ a.
-        record { entries = map (entry_at a.names.items) a.rows.items; brought = a.brought } };
+        record { entries = map (entry_at a.names.items) a.rows.items; brought = a.new_names } };
 
     ghost invariant = { λ a. ArePartsOf a.names.items a.rows.items };
 }
@@ -70,23 +70,23 @@ impl Model for Lists {
 // The count of new names, after the number of texts grew from `texts_before` to `texts_after`. Once there are too
 // many new names, the count stays the same.
 #[inline(always)]
-fn counted(brought: usize, texts_before: usize, texts_after: usize) -> usize
+fn counted_names(new_names: usize, texts_before: usize, texts_after: usize) -> usize
     requires within { texts_before ≤ texts_after }
     requires one { texts_after ≤ texts_before + 1 }
-    ensures counted { brought ≤ MOST_NAMES → result + texts_before ≡ brought + texts_after }
-    ensures cut { MOST_NAMES < brought → result ≡ brought }
+    ensures counted { new_names ≤ MOST_NAMES → result + texts_before ≡ new_names + texts_after }
+    ensures cut { MOST_NAMES < new_names → result ≡ new_names }
 {
-    if brought <= MOST_NAMES && texts_before < texts_after {
-        brought + 1
+    if new_names <= MOST_NAMES && texts_before < texts_after {
+        new_names + 1
     } else {
-        brought
+        new_names
     }
 }
 
 // The number of a name, or none if the text is not a name. The name is counted if it is new.
 #[inline(always)]
 fn number_name(
-    brought: &mut usize,
+    new_names: &mut usize,
     texts: &mut Texts,
     text: &[u8],
 ) -> Result<Option<usize>, AllocError>
@@ -94,13 +94,13 @@ fn number_name(
     ensures number { IfOk result (λ n. IfSome n (λ n. slice_get texts.new n ≡ Some text.now)) }
     ensures texts { StartsWith texts.old texts.new }
     ensures joined { IfOk result (λ n. IsJoined texts.old texts.new text.now) }
-    ensures counted { OnOk result (brought.old ≤ MOST_NAMES
-        → brought.new + length texts.old ≡ brought.old + length texts.new) }
-    ensures cut { OnOk result (MOST_NAMES < brought.old → brought.new ≡ brought.old) }
+    ensures counted { OnOk result (new_names.old ≤ MOST_NAMES
+        → new_names.new + length texts.old ≡ new_names.old + length texts.new) }
+    ensures cut { OnOk result (MOST_NAMES < new_names.old → new_names.new ≡ new_names.old) }
 {
     let texts_before = texts.len();
     let number = texts.name(text)?;
-    *brought = counted(*brought, texts_before, texts.len());
+    *new_names = counted_names(*new_names, texts_before, texts.len());
     Ok(number)
 }
 
@@ -122,21 +122,22 @@ fn push_number(numbers: &mut Vec<u32>, number: usize) -> Result<(), AllocError>
 #[inline(always)]
 fn add_name(
     numbers: &mut Vec<u32>,
-    brought: &mut usize,
+    new_names: &mut usize,
     texts: &mut Texts,
     text: &[u8],
 ) -> Result<bool, AllocError>
     ensures named { IfOk result (λ named. named ≡ words.is_name text.now) }
     ensures walked { IfOk result (λ named. named ≡ true
-        → AreWalked texts.old numbers.old.items brought.old texts.new numbers.new.items brought.new
+        → AreWalked texts.old numbers.old.items new_names.old
+        texts.new numbers.new.items new_names.new
         (text.now ∷ [])) }
     ensures texts { StartsWith texts.old texts.new }
     ensures grown { length numbers.old.items ≤ length numbers.new.items }
 {
-    if *brought > MOST_NAMES {
+    if *new_names > MOST_NAMES {
         return Ok(texts.known(text).is_some() || is_name(text));
     }
-    let Some(number) = number_name(brought, texts, text)? else {
+    let Some(number) = number_name(new_names, texts, text)? else {
         return Ok(false);
     };
     push_number(numbers, number)?;
@@ -147,21 +148,22 @@ fn add_name(
 // new names, the remaining names are only tested. Returns whether all of them are names.
 fn add_names(
     numbers: &mut Vec<u32>,
-    brought: &mut usize,
+    new_names: &mut usize,
     texts: &mut Texts,
     row: &ByteRecord,
 ) -> Result<bool, AllocError>
     ensures named { IfOk result (λ named.
         named ≡ list_all words.is_name (drop 2 (fields_of row.now))) }
     ensures walked { IfOk result (λ named. named ≡ true
-        → AreWalked texts.old numbers.old.items brought.old texts.new numbers.new.items brought.new
+        → AreWalked texts.old numbers.old.items new_names.old
+        texts.new numbers.new.items new_names.new
         (drop 2 (fields_of row.now))) }
     ensures texts { StartsWith texts.old texts.new }
     ensures grown { length numbers.old.items ≤ length numbers.new.items }
 {
     for i in 2..row.len() {
         if let Some(text) = row.get(i) {
-            if !add_name(numbers, brought, texts, text)? {
+            if !add_name(numbers, new_names, texts, text)? {
                 return Ok(false);
             }
         }
@@ -212,7 +214,7 @@ impl Lists {
         Lists {
             rows: Vec::new(alloc),
             names: Vec::new(alloc),
-            brought: 0,
+            new_names: 0,
         }
     }
 
@@ -235,26 +237,26 @@ impl Lists {
             → AddsEntry texts.old texts.new self.old self.new
             (list_entry place side (fields_of row.now))) }
     {
-        let was_cut = self.brought > MOST_NAMES;
-        let mut brought = self.brought;
-        let Some(owner) = number_name(&mut brought, texts, field(row, 1))? else {
+        let was_cut = self.new_names > MOST_NAMES;
+        let mut new_names = self.new_names;
+        let Some(owner) = number_name(&mut new_names, texts, field(row, 1))? else {
             return Ok(None);
         };
-        let start = self.names.len();
-        if !add_names(&mut self.names, &mut brought, texts, row)? {
+        let names_start = self.names.len();
+        if !add_names(&mut self.names, &mut new_names, texts, row)? {
             return Ok(None);
         }
         if !was_cut {
-            let end = self.names.len();
+            let names_end = self.names.len();
             push_row(
                 &mut self.rows,
                 place,
                 ListKind::Ranking(side),
                 owner,
-                start,
-                end,
+                names_start,
+                names_end,
             )?;
-            self.brought = brought;
+            self.new_names = new_names;
         }
         Ok(Some(owner))
     }
@@ -277,22 +279,22 @@ impl Lists {
             → AddsEntry texts.old texts.new self.old self.new
             (gone_entry place side (fields_of row.now))) }
     {
-        let was_cut = self.brought > MOST_NAMES;
-        let mut brought = self.brought;
-        let Some(owner) = number_name(&mut brought, texts, field(row, 2))? else {
+        let was_cut = self.new_names > MOST_NAMES;
+        let mut new_names = self.new_names;
+        let Some(owner) = number_name(&mut new_names, texts, field(row, 2))? else {
             return Ok(None);
         };
         if !was_cut {
-            let end = self.names.len();
+            let names_end = self.names.len();
             push_row(
                 &mut self.rows,
                 place,
                 ListKind::Withdrawal(side),
                 owner,
-                end,
-                end,
+                names_end,
+                names_end,
             )?;
-            self.brought = brought;
+            self.new_names = new_names;
         }
         Ok(Some(owner))
     }

@@ -89,9 +89,11 @@ pub fn push_programme<W: Write>(
     ensures { OnOk result
         (Adds W.contents rows.old rows.new (programme_row docket.now kind.now programme filled)) }
 {
-    let (mut places, mut residents) = (itoa::Buffer::new(), itoa::Buffer::new());
-    let quota = places.format(docket.instance().quota(programme)).as_bytes();
-    let filled = residents.format(filled).as_bytes();
+    let (mut quota_buffer, mut filled_buffer) = (itoa::Buffer::new(), itoa::Buffer::new());
+    let quota = quota_buffer
+        .format(docket.instance().quota(programme))
+        .as_bytes();
+    let filled = filled_buffer.format(filled).as_bytes();
     let name = docket.programme_name(programme).as_bytes();
     rows.push(&[kind, name, filled, quota])
 }
@@ -100,15 +102,21 @@ pub fn push_programme<W: Write>(
 fn push_programmes<W: Write>(
     rows: &mut RowWriter<'_, W>,
     docket: &Docket,
-    counts: &[u32],
+    filled_counts: &[u32],
 ) -> Result<(), WriteFailed>
-    requires counts { length counts.now ≡ length docket.now.programmes }
-    ensures { OnOk result ((m : List (Option ℕ))
-        → AreCountsOf m counts.now (length docket.now.programmes)
-        → Adds W.contents rows.old rows.new (filled_rows docket.now m)) }
+    requires counts { length filled_counts.now ≡ length docket.now.programmes }
+    ensures { OnOk result ((assignment : List (Option ℕ))
+        → AreCountsOf assignment filled_counts.now (length docket.now.programmes)
+        → Adds W.contents rows.old rows.new (filled_rows docket.now assignment)) }
 {
     for p in 0..docket.instance().programmes() {
-        push_programme(rows, docket, &[FILLED], ProgrammeNo(p), counts[p as usize])?;
+        push_programme(
+            rows,
+            docket,
+            &[FILLED],
+            ProgrammeNo(p),
+            filled_counts[p as usize],
+        )?;
     }
     Ok(())
 }
@@ -152,8 +160,8 @@ pub fn write_sheet<W: Write>(
         ⊎ (fault ≡ DocketFault.Write)) }
     ensures before { IfErr result (λ fault. fault ≢ DocketFault.Write → writer.new ≡ writer.old) }
 {
-    let mut room = room_for_rows(alloc)?;
-    let mut rows = RowWriter::new(writer, &mut room);
+    let mut row_buffer = room_for_rows(alloc)?;
+    let mut rows = RowWriter::new(writer, &mut row_buffer);
     push_sheet(alloc, &mut rows, docket, assignment)?;
     rows.send()?;
     Ok(())

@@ -3,4 +3,4 @@ use Rattle.docket_names.specs.Guesses.{AreGuesses}
 use Rattle.docket_names.proofs.guesses.moved.Given as goal
 
 abbrev pub invariant-loop-guess : goal.invariant-loop-guess
-invariant-loop-guess l = (texts : List (List ℕ)) → AreGuesses texts l.guesses.items → AreGuesses texts l.more.items
+invariant-loop-guess l = (texts : List (List ℕ)) → AreGuesses texts l.guesses.items → AreGuesses texts l.larger_table.items

@@ -5,7 +5,7 @@ use Rattle.docket_names.proofs.name_key.same_words.Goals as goal
 
 pub returns : goal.returns
 returns c =
-    words_tell c.args.a.now c.args.b.now c.word_at.result c.word_at-3.result c.word_at-5.result c.word_at-7.result
+    words_tell c.args.left_bytes.now c.args.right_bytes.now c.word_at.result c.word_at-3.result c.word_at-5.result c.word_at-7.result
     c.word_at-2.result c.word_at-4.result c.word_at-6.result c.word_at-8.result
     (λ same. (
       c.word_at.ensures.value ∙ ap (λ (l : List ℕ). from_le_bytes w64 (take 8 (drop 0 l))) same ∙ sym c.word_at-2.ensures.value,
@@ -13,7 +13,7 @@ returns c =
       c.word_at-5.ensures.value ∙ ap (λ (l : List ℕ). from_le_bytes w64 (take 8 (drop 16 l))) same ∙ sym c.word_at-6.ensures.value,
       c.word_at-7.ensures.value ∙ ap (λ (l : List ℕ). from_le_bytes w64 (take 8 (drop 24 l))) same ∙ sym c.word_at-8.ensures.value,
     ))
-    (λ e f g h. by_eights c.args.a.now c.args.b.now (search rules) (search rules)
+    (λ e f g h. by_eights c.args.left_bytes.now c.args.right_bytes.now (search rules) (search rules)
     (sym c.word_at.ensures.bytes ∙ ap (to_le_bytes w64) e ∙ c.word_at-2.ensures.bytes)
     (sym c.word_at-3.ensures.bytes ∙ ap (to_le_bytes w64) f ∙ c.word_at-4.ensures.bytes)
     (sym c.word_at-5.ensures.bytes ∙ ap (to_le_bytes w64) g ∙ c.word_at-6.ensures.bytes)

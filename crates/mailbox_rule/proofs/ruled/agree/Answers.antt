@@ -5,5 +5,5 @@ use Rattle.mailbox_rule.proofs.ruled.agree.Goals as goal
 pub absorb-requires-clause-rule : goal.absorb-requires-clause-rule
 absorb-requires-clause-rule g c = joins _ _ _ _ c.put.invariant.1 c.take.invariant.1
 
-pub another-other-requires-clause-rule : goal.another-other-requires-clause-rule
-another-other-requires-clause-rule g c = cuts _ _ _ (search rules) (search rules) (search rules)
+pub another-take_pass-requires-clause-rule : goal.another-take_pass-requires-clause-rule
+another-take_pass-requires-clause-rule g c = cuts _ _ _ (search rules) (search rules) (search rules)

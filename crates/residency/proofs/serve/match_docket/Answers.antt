@@ -5,18 +5,18 @@ pub write_match-requires-clause-sheet : goal.write_match-requires-clause-sheet
 write_match-requires-clause-sheet g c =
     let inst = c.instance-inst.ensures.instance in
     let run = c.in-Ok.ensures.run.settled c.in-Closed.is in
-    sheet_of c.args.docket.now c.in-Ok.done.assignment c.instance-inst.ensures.whole (rw inst at c.residents-instance.ensures.instance) (rw inst at run.stable)
+    sheet_of c.args.docket.now c.in-Ok.finished_run.assignment c.instance-inst.ensures.whole (rw inst at c.residents-instance.ensures.instance) (rw inst at run.stable)
 
 pub write_match-requires-clause-journal : goal.write_match-requires-clause-journal
 write_match-requires-clause-journal g c =
     let inst = c.instance-inst.ensures.instance in
-    rw (c.deref.ensures.value, ← inst) (names_members c.instance-inst.result.now c.args.options.now.capacity c.in-Ok.done.journal.items c.in-Ok.ensures.run.legal)
+    rw (c.deref.ensures.value, ← inst) (names_members c.instance-inst.result.now c.args.options.now.capacity c.in-Ok.finished_run.journal.items c.in-Ok.ensures.run.legal)
 
 pub returns-in-Ok-write_match-clause-text : goal.returns-in-Ok-write_match-clause-text
 returns-in-Ok-write_match-clause-text g c =
     let admitted = c.in-Ok.ensures.admitted in
     record {
-      run = closed_run _ _ c.instance-inst.result.now _ _ c.in-Ok.done.entered.items _ c.instance-inst.ensures.instance c.law_one_settled.ensures
+      run = closed_run _ _ c.instance-inst.result.now _ _ c.in-Ok.finished_run.entered.items _ c.instance-inst.ensures.instance c.law_one_settled.ensures
           (record { some_worker = admitted.0; few_workers = admitted.1; capacity = admitted.2 }) c.in-Ok.ensures.run.legal (c.in-Ok.ensures.run.closed.0 c.in-Closed.is)
           c.in-Ok.ensures.run.assigned (c.in-Ok.ensures.run.settled c.in-Closed.is) c.in-Ok.ensures.run.counts;
       appended = rw c.deref.ensures.value at c.in-Ok-write_match.ensures.text;
@@ -25,7 +25,7 @@ returns-in-Ok-write_match-clause-text g c =
 pub returns-clause-fault : goal.returns-clause-fault
 returns-clause-fault g c =
     let admitted = c.in-Ok.ensures.admitted in (
-      closed_run _ _ c.instance-inst.result.now _ _ c.in-Ok.done.entered.items _ c.instance-inst.ensures.instance c.law_one_settled.ensures
+      closed_run _ _ c.instance-inst.result.now _ _ c.in-Ok.finished_run.entered.items _ c.instance-inst.ensures.instance c.law_one_settled.ensures
           (record { some_worker = admitted.0; few_workers = admitted.1; capacity = admitted.2 }) c.in-Ok.ensures.run.legal (c.in-Ok.ensures.run.closed.0 c.in-Closed.is)
           c.in-Ok.ensures.run.assigned (c.in-Ok.ensures.run.settled c.in-Closed.is) c.in-Ok.ensures.run.counts,
       c.in-Err-write_match.ensures.fault,

@@ -6,5 +6,5 @@ use Rattle.docket.proofs.write.sheet.push_programmes.Given as goal
 
 abbrev pub invariant-loop-p : goal.invariant-loop-p
 invariant-loop-p g l =
-    (m : List (Option ℕ)) → AreCountsOf m l.counts (length l.docket.programmes)
+    (m : List (Option ℕ)) → AreCountsOf m l.filled_counts (length l.docket.programmes)
     → Adds g.W.Write.contents l.fn.rows l.rows (flat_map (filled_row l.docket m) (range_with_len 0 l.p))

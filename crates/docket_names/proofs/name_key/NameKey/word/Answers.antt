@@ -5,7 +5,7 @@ use Rattle.docket_names.proofs.name_key.NameKey.word.Goals as goal
 
 pub returns-then-self-le8 : goal.returns-then-self-le8
 returns-then-self-le8 c = λ few.
-    c.first_word-first.ensures.bytes ∙ ap (λ (l : List ℕ). take 8 l) c.self.invariant.filled_up
+    c.first_word-word_one.ensures.bytes ∙ ap (λ (l : List ℕ). take 8 l) c.self.invariant.filled_up
     ∙ ap (λ (l : List ℕ). take 8 (filled l)) c.self.view_is
 
 pub returns : goal.returns

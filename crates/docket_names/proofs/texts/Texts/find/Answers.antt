@@ -5,7 +5,7 @@ use Rattle.docket_names.proofs.texts.Texts.find.Goals as goal
 
 pub returns-then-text-gt-MAX_NAME : goal.returns-then-text-gt-MAX_NAME
 returns-then-text-gt-MAX_NAME c =
-    rw (← c.self.view_is) (sym (longer_unnumbered c.self.inside.seen.keys c.args.text.now c.self.invariant.0 (search rules)))
+    rw (← c.self.view_is) (sym (longer_unnumbered c.self.inside.seen_names.keys c.args.text.now c.self.invariant.0 (search rules)))
 
 pub returns : goal.returns
 unfolding number_in

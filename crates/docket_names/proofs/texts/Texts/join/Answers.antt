@@ -8,8 +8,8 @@ new-key-requires c = let few = name_length c.args.name.now c.requires in omega a
 
 pub invariant_of-self-2 : goal.invariant_of-self-2
 invariant_of-self-2 c =
-    let texts = c.insert.new.seen.keys in
-    let kept = guesses_kept c.self.inside.seen.keys texts c.self.inside.guesses.items c.in_ok-number.ensures.kept c.self.invariant.1 in
+    let texts = c.insert.new.seen_names.keys in
+    let kept = guesses_kept c.self.inside.seen_names.keys texts c.self.inside.guesses.items c.in_ok-number.ensures.kept c.self.invariant.1 in
     let at = c.in_ok-number.ensures.number ∙ ap Some c.new-key.ensures in
     let bytes = rw c.new-key.ensures at c.word-word.ensures in (
       c.in_ok-number.ensures.names,

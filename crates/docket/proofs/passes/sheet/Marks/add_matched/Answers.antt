@@ -43,4 +43,4 @@ returns-clause-marked c = λ texts all before row h marked.
     let less = room texts c.args.programmes.now c.args.residents.now all before c.args.place _ row h in
     let more : c.saturating_add.result ≡ count_by (is_matched_with (field row 2)) before + 1 = omega (arith, c.saturating_add.ensures, count, few, less) in
     marks_matched c.args.self.now _ all before row c.in_ok-resident.resident c.in_ok-programme.programme (distinct_programmes all h.known.sound h.known.few) (distinct_residents all h.known.sound h.known.few)
-    h.says.0 at to free marked c.set.ensures refl refl (ap (λ n. slice_set c.args.self.now.counts.items c.in_ok-programme.programme n) more)
+    h.says.0 at to free marked c.set.ensures refl refl (ap (λ n. slice_set c.args.self.now.matched_counts.items c.in_ok-programme.programme n) more)
