@@ -13,22 +13,22 @@ use match_model::{ProgrammeNo, ResidentNo};
 use std::alloc::Global;
 use std::test::Fail;
 use test_support::events::{A, B, HOLD, RELEASE, X, Y, Z};
-use test_support::instances::{TWO_PLACES, made};
+use test_support::instances::{TWO_PLACES, instance_of};
 
 // What a resident's agent takes out of its mailbox, and the two answers that it then gives.
-type Taken = (
+type ResidentTurn = (
     Option<Heard<OfferNote>>,
     [Option<(ProgrammeNo, AnswerKind)>; 2],
 );
 
-const OF_A: OfferNote = OfferNote { programme: A };
+const OFFER_OF_A: OfferNote = OfferNote { programme: A };
 
-const OF_B: OfferNote = OfferNote { programme: B };
+const OFFER_OF_B: OfferNote = OfferNote { programme: B };
 
-const TAKEN: [Taken; 3] = [
-    (Some(Heard::Got(OF_A)), [Some((A, HOLD)), None]),
+const RESIDENT_TURNS: [ResidentTurn; 3] = [
+    (Some(Heard::Got(OFFER_OF_A)), [Some((A, HOLD)), None]),
     (
-        Some(Heard::Got(OF_B)),
+        Some(Heard::Got(OFFER_OF_B)),
         [Some((B, HOLD)), Some((A, RELEASE))],
     ),
     (Some(Heard::LogFull), [None, None]),
@@ -37,11 +37,11 @@ const TAKEN: [Taken; 3] = [
 // Whether the desk takes offers and gives answers as expected, and then has the expected log.
 fn takes_so<T: TakeEnd<OfferNote> + Drop>(
     run: &mut ResidentRun<T>,
-    wanted: &[Taken],
+    wanted_turns: &[ResidentTurn],
     log: &[OfferNote],
 ) -> bool {
-    for (heard, given) in wanted {
-        if run.take() != *heard || run.give_two() != *given {
+    for (heard, given_answers) in wanted_turns {
+        if run.take() != *heard || run.give_two() != *given_answers {
             return false;
         }
     }
@@ -52,25 +52,25 @@ fn takes_so<T: TakeEnd<OfferNote> + Drop>(
 fn resident_takes<T: TakeEnd<OfferNote> + Drop>(
     alloc: Global,
     end: T,
-    wanted: &[Taken],
+    wanted_turns: &[ResidentTurn],
     log: &[OfferNote],
 ) -> bool
     requires { T.taken end ≡ [] }
 {
-    let Ok(inst) = made(alloc, TWO_PLACES) else {
+    let Ok(inst) = instance_of(alloc, TWO_PLACES) else {
         return false;
     };
     match ResidentRun::open(alloc, inst, X, end) {
-        Some(mut run) => takes_so(&mut run, wanted, log),
+        Some(mut run) => takes_so(&mut run, wanted_turns, log),
         None => false,
     }
 }
 
 #[test]
 fn releases_the_one_before(rt: HostRuntime) -> Result<(), Fail> {
-    let log = [OF_A, OF_B];
+    let log = [OFFER_OF_A, OFFER_OF_B];
     let end = ListTake::of(log.to_vec(rt.alloc())?);
-    assert!(rt; resident_takes(rt.alloc(), end, &TAKEN, &log));
+    assert!(rt; resident_takes(rt.alloc(), end, &RESIDENT_TURNS, &log));
     Ok(())
 }
 
@@ -90,27 +90,27 @@ const ANSWERS: [AnswerNote; 3] = [
     },
 ];
 
-// Whether the desk hears these answers, gets the reply `last` at the next look, and then has the
+// Whether the desk hears these answers, gets the reply `last_reply` at the next look, and then has the
 // expected log.
 fn hears_so<T: TakeEnd<AnswerNote> + Drop>(
     run: &mut ProgrammeRun<T>,
     answers: &[AnswerNote],
-    last: Heard<AnswerNote>,
+    last_reply: Heard<AnswerNote>,
 ) -> bool {
     for answer in answers {
         if run.hear() != Heard::Got(*answer) {
             return false;
         }
     }
-    run.hear() == last && run.log() == answers
+    run.hear() == last_reply && run.log() == answers
 }
 
 // Whether the desk wants to offer to these residents, one after another.
 fn offers_so<T: TakeEnd<AnswerNote> + Drop>(
     run: &mut ProgrammeRun<T>,
-    wanted: &[Option<ResidentNo>],
+    wanted_residents: &[Option<ResidentNo>],
 ) -> bool {
-    for wish in wanted {
+    for wish in wanted_residents {
         if run.offer() != *wish {
             return false;
         }
@@ -124,19 +124,19 @@ fn programme_hears<T: TakeEnd<AnswerNote> + Drop>(
     alloc: Global,
     end: T,
     answers: &[AnswerNote],
-    last: Heard<AnswerNote>,
+    last_reply: Heard<AnswerNote>,
     later_offers: &[Option<ResidentNo>],
 ) -> bool
     requires { T.taken end ≡ [] }
 {
-    let Ok(inst) = made(alloc, TWO_PLACES) else {
+    let Ok(inst) = instance_of(alloc, TWO_PLACES) else {
         return false;
     };
     let Some(mut run) = ProgrammeRun::open(alloc, inst, A, end) else {
         return false;
     };
     offers_so(&mut run, &[Some(X), Some(Y), None])
-        && hears_so(&mut run, answers, last)
+        && hears_so(&mut run, answers, last_reply)
         && offers_so(&mut run, later_offers)
 }
 
@@ -149,9 +149,9 @@ fn wishes_where_a_place_is_free(rt: HostRuntime) -> Result<(), Fail> {
 
 // A receiving end whose mailbox has lost its sending end.
 #[derive(Drop)]
-struct Deserted;
+struct DesertedEnd;
 
-impl<M> TakeEnd<M> for Deserted {
+impl<M> TakeEnd<M> for DesertedEnd {
     ghost taken = { λ _. [] };
 
     ghost may_lack = { λ _. ⊥ };
@@ -164,8 +164,8 @@ impl<M> TakeEnd<M> for Deserted {
 }
 
 #[test]
-fn gone(rt: HostRuntime) {
-    let gone = [(Some(Heard::Gone), [None, None])];
-    assert!(rt; resident_takes(rt.alloc(), Deserted, &gone, &[]));
-    assert!(rt; programme_hears(rt.alloc(), Deserted, &[], Heard::Gone, &[None]));
+fn the_sending_end_is_gone(rt: HostRuntime) {
+    let gone_turn = [(Some(Heard::Gone), [None, None])];
+    assert!(rt; resident_takes(rt.alloc(), DesertedEnd, &gone_turn, &[]));
+    assert!(rt; programme_hears(rt.alloc(), DesertedEnd, &[], Heard::Gone, &[None]));
 }

@@ -7,7 +7,7 @@ use std::test::Fail;
 use test_support::events::{
     A, B, X, Y, Z, answer, hear, nine_events, nineteen_events, offer, take,
 };
-use test_support::instances::{Members, TWO_BY_TWO, TWO_PLACES, made};
+use test_support::instances::{Members, TWO_BY_TWO, TWO_PLACES, instance_of};
 
 // The sheet that matches each resident with the programme that has this number, or with none.
 fn sheet(alloc: Global, places: &[Option<u32>]) -> Result<Assignment, ModelFault> {
@@ -15,23 +15,23 @@ fn sheet(alloc: Global, places: &[Option<u32>]) -> Result<Assignment, ModelFault
         return Err(ModelFault::TooManyResidents);
     };
     let mut sheet = Assignment::new(alloc, residents)?;
-    for (r, place) in (0..sheet.len()).zip(places) {
-        if r < sheet.len() {
-            sheet.set(ResidentNo(r), place.map(|p| ProgrammeNo(p)));
+    for (resident, place) in (0..sheet.len()).zip(places) {
+        if resident < sheet.len() {
+            sheet.set(ResidentNo(resident), place.map(|p| ProgrammeNo(p)));
         }
     }
     Ok(sheet)
 }
 
-fn joined(alloc: Global, parts: &[&[Event]]) -> Result<Vec<Event>, AllocError> {
+fn joined_events(alloc: Global, event_lists: &[&[Event]]) -> Result<Vec<Event>, AllocError> {
     let mut events = Vec::new(alloc);
-    for part in parts {
-        events.extend_from_slice(part)?;
+    for event_list in event_lists {
+        events.extend_from_slice(event_list)?;
     }
     Ok(events)
 }
 
-fn refused(place: usize, refused: Refused) -> Result<usize, ReplayFault> {
+fn refused_at(place: usize, refused: Refused) -> Result<usize, ReplayFault> {
     Err(ReplayFault::At { place, refused })
 }
 
@@ -39,31 +39,36 @@ fn refused(place: usize, refused: Refused) -> Result<usize, ReplayFault> {
 type Findings<'a> = (&'a [(u32, u32)], &'a [(u32, u32)], &'a [(u32, u32)]);
 
 // Whether the found pairs of a resident and a programme are the expected pairs.
-fn are_pairs(found: &[(ResidentNo, ProgrammeNo)], wanted: &[(u32, u32)]) -> bool {
-    found.len() == wanted.len()
-        && found
-            .iter()
-            .zip(wanted)
-            .all(|((r, p), wanted)| (r.0, p.0) == *wanted)
+fn are_pairs(found_pairs: &[(ResidentNo, ProgrammeNo)], wanted_pairs: &[(u32, u32)]) -> bool {
+    found_pairs.len() == wanted_pairs.len()
+        && found_pairs.iter().zip(wanted_pairs).all(|((resident, programme), wanted_pair)| (
+            resident.0,
+            programme.0,
+        ) == *wanted_pair)
 }
 
 // Whether the programmes found over their quota, with their numbers of residents, are the expected ones.
-fn are_over(found: &[(ProgrammeNo, u32)], wanted: &[(u32, u32)]) -> bool {
-    found.len() == wanted.len()
-        && found
-            .iter()
-            .zip(wanted)
-            .all(|((p, count), wanted)| (p.0, *count) == *wanted)
+fn are_over_quota(
+    found_programmes: &[(ProgrammeNo, u32)],
+    wanted_programmes: &[(u32, u32)],
+) -> bool {
+    found_programmes.len() == wanted_programmes.len()
+        && found_programmes.iter().zip(wanted_programmes).all(|((programme, residents), wanted)| (
+            programme.0,
+            *residents,
+        ) == *wanted)
 }
 
 // Whether the report has the expected lists, and says that the sheet is stable exactly if all of them are empty.
-fn has_found(report: &AuditReport, lists: Findings) -> bool {
-    let (unacceptable, over, blocking) = lists;
-    let nothing = unacceptable.is_empty() && over.is_empty() && blocking.is_empty();
-    are_pairs(report.unacceptable.as_slice(), unacceptable)
-        && are_over(report.over.as_slice(), over)
-        && are_pairs(report.blocking.as_slice(), blocking)
-        && report.is_stable() == nothing
+fn has_found(report: &AuditReport, findings: Findings) -> bool {
+    let (unacceptable_pairs, programmes_over_quota, blocking_pairs) = findings;
+    let finds_nothing = unacceptable_pairs.is_empty()
+        && programmes_over_quota.is_empty()
+        && blocking_pairs.is_empty();
+    are_pairs(report.unacceptable.as_slice(), unacceptable_pairs)
+        && are_over_quota(report.over.as_slice(), programmes_over_quota)
+        && are_pairs(report.blocking.as_slice(), blocking_pairs)
+        && report.is_stable() == finds_nothing
 }
 
 // Whether the audit of this sheet finds the expected lists.
@@ -71,12 +76,12 @@ fn finds(
     alloc: Global,
     members: Members,
     places: &[Option<u32>],
-    lists: Findings,
+    findings: Findings,
 ) -> Result<bool, ModelFault> {
-    let instance = made(alloc, members)?;
+    let instance = instance_of(alloc, members)?;
     let sheet = sheet(alloc, places)?;
     match audit(alloc, &instance, &sheet) {
-        Ok(report) => Ok(has_found(&report, lists)),
+        Ok(report) => Ok(has_found(&report, findings)),
         Err(_) => Ok(false),
     }
 }
@@ -94,49 +99,58 @@ const AUDITED: [(Members, &[Option<u32>], Findings); 4] = [
 
 #[test]
 fn audits_sheets(rt: HostRuntime) -> Result<(), Fail> {
-    for (members, places, lists) in AUDITED {
-        assert!(rt; finds(rt.alloc(), members, places, lists)?);
+    for (members, places, findings) in AUDITED {
+        assert!(rt; finds(rt.alloc(), members, places, findings)?);
     }
     Ok(())
 }
 
 #[test]
 fn audits_no_sheet_of_another_size(rt: HostRuntime) -> Result<(), Fail> {
-    let pair = made(rt.alloc(), TWO_BY_TWO)?;
-    let short = sheet(rt.alloc(), &[None])?;
-    assert!(rt; matches!(audit(rt.alloc(), &pair, &short), Err(AuditFault::WrongSize)));
+    let instance = instance_of(rt.alloc(), TWO_BY_TWO)?;
+    let short_sheet = sheet(rt.alloc(), &[None])?;
+    assert!(rt;
+        matches!(
+            audit(rt.alloc(), &instance, &short_sheet),
+            Err(AuditFault::WrongSize)
+        )
+    );
     Ok(())
 }
 
 // How many events a replay enters, or its fault.
-fn replayed(
+fn events_replayed(
     alloc: Global,
     members: Members,
     capacity: Capacity,
     events: &[Event],
 ) -> Result<usize, ReplayFault> {
-    let Ok(instance) = made(alloc, members) else {
+    let Ok(instance) = instance_of(alloc, members) else {
         return Err(ReplayFault::Memory);
     };
     match replay(alloc, &instance, capacity, events) {
-        Ok(replayed) => Ok(replayed.events),
+        Ok(report) => Ok(report.events),
         Err(fault) => Err(fault),
     }
 }
 
-// How many events a replay enters, or its fault, if it gets the first `count` of the nineteen events, followed
-// by the events `more`.
-fn replayed_after(alloc: Global, count: usize, more: &[Event]) -> Result<usize, ReplayFault> {
+// How many events a replay enters, or its fault, if it gets the first `kept_count` of the nineteen events, followed
+// by the events `added_events`.
+fn events_replayed_after(
+    alloc: Global,
+    kept_count: usize,
+    added_events: &[Event],
+) -> Result<usize, ReplayFault> {
     let events = nineteen_events();
-    let Ok(events) = joined(alloc, &[&events[..count.min(19)], more]) else {
+    let Ok(events) = joined_events(alloc, &[&events[..kept_count.min(19)], added_events]) else {
         return Err(ReplayFault::Memory);
     };
-    replayed(alloc, TWO_PLACES, Capacity::Full, events.as_slice())
+    events_replayed(alloc, TWO_PLACES, Capacity::Full, events.as_slice())
 }
 
 #[test]
 fn replays_lists(rt: HostRuntime) {
-    let two_due = [
+    let two_due_events = [
         offer(A, X),
         offer(B, X),
         take(X, A),
@@ -144,29 +158,29 @@ fn replays_lists(rt: HostRuntime) {
         take(X, B),
         answer(X, B, AnswerKind::Decline),
     ];
-    let two_taken = [offer(A, X), offer(B, X), take(X, A), take(X, B)];
-    let lists: [(usize, &[Event], Result<usize, ReplayFault>); 9] = [
+    let two_taken_events = [offer(A, X), offer(B, X), take(X, A), take(X, B)];
+    let cases: [(usize, &[Event], Result<usize, ReplayFault>); 9] = [
         (19, &[], Ok(19)),
-        (0, &[take(X, A)], refused(1, Refused::NothingWaiting)),
+        (0, &[take(X, A)], refused_at(1, Refused::NothingWaiting)),
         (
             13,
             &[Event::Close],
-            refused(14, Refused::StillPending(Pending::Answers(A))),
+            refused_at(14, Refused::StillPending(Pending::Answers(A))),
         ),
         (
             11,
             &[hear(A, X, AnswerKind::Release)],
-            refused(12, Refused::WrongFront),
+            refused_at(12, Refused::WrongFront),
         ),
-        (19, &[take(X, A)], refused(20, Refused::Closed)),
-        (0, &two_due, refused(6, Refused::NotDue)),
+        (19, &[take(X, A)], refused_at(20, Refused::Closed)),
+        (0, &two_due_events, refused_at(6, Refused::NotDue)),
         (18, &[], Err(ReplayFault::NotClosed)),
-        (0, &[offer(A, Y)], refused(1, Refused::NotNext)),
-        (0, &two_taken, refused(4, Refused::AnswerDue)),
+        (0, &[offer(A, Y)], refused_at(1, Refused::NotNext)),
+        (0, &two_taken_events, refused_at(4, Refused::AnswerDue)),
     ];
-    for (count, more, wanted) in lists {
+    for (kept_count, added_events, wanted) in cases {
         assert!(rt;
-            replayed_after(rt.alloc(), count, more) == wanted,
+            events_replayed_after(rt.alloc(), kept_count, added_events) == wanted,
             "{wanted:?}"
         );
     }
@@ -174,27 +188,31 @@ fn replays_lists(rt: HostRuntime) {
 
 #[test]
 fn replays_under_a_capacity(rt: HostRuntime) {
-    let good = nineteen_events();
-    let twice = [offer(A, X), offer(B, X)];
-    let lists: [(u32, &[Event], Result<usize, ReplayFault>); 6] = [
-        (1, &twice, refused(2, Refused::MailboxFull)),
-        (2, &good, refused(10, Refused::MailboxFull)),
-        (3, &good, Ok(19)),
-        (1024, &good, Ok(19)),
-        (0, &good, Err(ReplayFault::BadCapacity)),
-        (1025, &good, Err(ReplayFault::BadCapacity)),
+    let good_events = nineteen_events();
+    let two_offers = [offer(A, X), offer(B, X)];
+    let cases: [(u32, &[Event], Result<usize, ReplayFault>); 6] = [
+        (1, &two_offers, refused_at(2, Refused::MailboxFull)),
+        (2, &good_events, refused_at(10, Refused::MailboxFull)),
+        (3, &good_events, Ok(19)),
+        (1024, &good_events, Ok(19)),
+        (0, &good_events, Err(ReplayFault::BadCapacity)),
+        (1025, &good_events, Err(ReplayFault::BadCapacity)),
     ];
-    for (n, events, wanted) in lists {
-        let answer = replayed(rt.alloc(), TWO_PLACES, Capacity::Each(n), events);
-        assert!(rt; answer == wanted, "{wanted:?}");
+    for (room, events, wanted) in cases {
+        let replay_result = events_replayed(rt.alloc(), TWO_PLACES, Capacity::Each(room), events);
+        assert!(rt; replay_result == wanted, "{wanted:?}");
     }
 }
 
 // The events with these indices, in the order of the indices.
-fn chosen(alloc: Global, events: &[Event], places: &[usize]) -> Result<Vec<Event>, AllocError> {
+fn chosen_events(
+    alloc: Global,
+    events: &[Event],
+    indices: &[usize],
+) -> Result<Vec<Event>, AllocError> {
     let mut chosen = Vec::new(alloc);
-    for place in places {
-        if let Some(event) = events.get(*place) {
+    for index in indices {
+        if let Some(event) = events.get(*index) {
             chosen.push(*event)?;
         }
     }
@@ -241,34 +259,34 @@ const FORGED: [(&[usize], Result<usize, ReplayFault>); 6] = [
 #[test]
 fn sees_forged_lists(rt: HostRuntime) -> Result<(), Fail> {
     let alloc = rt.alloc();
-    let good = nine_events();
-    for (places, wanted) in FORGED {
-        let events = chosen(alloc, &good, places)?;
-        let answer = replayed(alloc, TWO_BY_TWO, Capacity::Full, events.as_slice());
-        assert!(rt; answer == wanted, "{wanted:?}");
+    let good_events = nine_events();
+    for (indices, wanted) in FORGED {
+        let events = chosen_events(alloc, &good_events, indices)?;
+        let replay_result = events_replayed(alloc, TWO_BY_TWO, Capacity::Full, events.as_slice());
+        assert!(rt; replay_result == wanted, "{wanted:?}");
     }
-    let answer = replayed(
+    let replay_result = events_replayed(
         alloc,
         TWO_BY_TWO,
         Capacity::Full,
         &[offer(A, X), offer(A, Y)],
     );
-    assert!(rt; answer == refused(2, Refused::NoPlace));
+    assert!(rt; replay_result == refused_at(2, Refused::NoPlace));
     Ok(())
 }
 
 // How many events a replay enters whose result is compared with this sheet, or its fault.
-fn checked(
+fn events_checked(
     alloc: Global,
     members: Members,
     events: &[Event],
     places: &[Option<u32>],
 ) -> Result<usize, ReplayFault> {
-    let (Ok(instance), Ok(sheet)) = (made(alloc, members), sheet(alloc, places)) else {
+    let (Ok(instance), Ok(sheet)) = (instance_of(alloc, members), sheet(alloc, places)) else {
         return Err(ReplayFault::Memory);
     };
     match check(alloc, &instance, Capacity::Full, events, &sheet) {
-        Ok(checked) => Ok(checked.events),
+        Ok(report) => Ok(report.events),
         Err(fault) => Err(fault),
     }
 }
@@ -285,16 +303,18 @@ const CHECKED: [(&[Option<u32>], Result<usize, ReplayFault>); 5] = [
 fn checks_sheets(rt: HostRuntime) {
     let events = nine_events();
     for (places, wanted) in CHECKED {
-        let answer = checked(rt.alloc(), TWO_BY_TWO, &events, places);
-        assert!(rt; answer == wanted, "{wanted:?}");
+        let check_result = events_checked(rt.alloc(), TWO_BY_TWO, &events, places);
+        assert!(rt; check_result == wanted, "{wanted:?}");
     }
-    let settled = [Some(1), Some(0), Some(0)];
-    assert!(rt; checked(rt.alloc(), TWO_PLACES, &nineteen_events(), &settled) == Ok(19));
+    let settled_places = [Some(1), Some(0), Some(0)];
+    assert!(rt;
+        events_checked(rt.alloc(), TWO_PLACES, &nineteen_events(), &settled_places) == Ok(19)
+    );
 }
 
-// Whether these workers' events are counted as in `wanted`, which has a number for each worker.
-fn counts_are(alloc: Global, who: &[u8], wanted: &[u64]) -> bool {
-    let Ok(workers) = u32::try_from(wanted.len()) else {
+// Whether these workers' events are counted as in `wanted_counts`, which has a number for each worker.
+fn counts_are(alloc: Global, who: &[u8], wanted_counts: &[u64]) -> bool {
+    let Ok(workers) = u32::try_from(wanted_counts.len()) else {
         return false;
     };
     for worker in who {
@@ -303,7 +323,7 @@ fn counts_are(alloc: Global, who: &[u8], wanted: &[u64]) -> bool {
         }
     }
     match counts(alloc, workers, who) {
-        Ok(counts) => counts.as_slice() == wanted,
+        Ok(counts) => counts.as_slice() == wanted_counts,
         Err(_) => false,
     }
 }
@@ -316,8 +336,8 @@ fn counts_events_of_workers(rt: HostRuntime) {
         (&[2, 2, 7], &[0, 0, 2, 0, 0, 0, 0, 1]),
         (&[], &[]),
     ];
-    for (who, wanted) in cases {
-        assert!(rt; counts_are(rt.alloc(), who, wanted));
+    for (who, wanted_counts) in cases {
+        assert!(rt; counts_are(rt.alloc(), who, wanted_counts));
     }
 }
 
@@ -333,21 +353,21 @@ fn tells_faults(rt: HostRuntime) -> Result<(), Fail> {
     for (fault, text) in audit_faults {
         assert!(rt; fault.to_string(rt.alloc())?.as_str() == text, "{text}");
     }
-    let due = ReplayFault::At {
+    let due_fault = ReplayFault::At {
         place: 4,
         refused: Refused::AnswerDue,
     };
-    let faults = [
+    let replay_faults = [
         (ReplayFault::BadCapacity, "bad capacity"),
         (ReplayFault::Memory, "out of memory"),
-        (due, "event 4 is refused: AnswerDue"),
+        (due_fault, "event 4 is refused: AnswerDue"),
         (ReplayFault::NotClosed, "the exchange isn't closed"),
         (
             ReplayFault::SheetDiffers(Z),
             "the sheet differs at resident 2",
         ),
     ];
-    for (fault, text) in faults {
+    for (fault, text) in replay_faults {
         assert!(rt; fault.to_string(rt.alloc())?.as_str() == text, "{text}");
     }
     Ok(())

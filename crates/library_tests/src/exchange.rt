@@ -6,17 +6,17 @@ mod walks;
 
 use exchange_core::{Capacity, CoreFault, Event, Pending, Refused};
 use match_model::{Instance, ProgrammeNo, ResidentNo};
-use run::{Run, Seen};
+use run::{CoreView, Run};
 use std::alloc::{AllocError, Global};
 use std::test::Fail;
 use test_support::events::{
     A, B, DECLINE, HOLD, RELEASE, X, Y, Z, answer, hear, nine_events, nineteen_events, offer, take,
 };
-use test_support::instances::{Members, TWO_BY_TWO, TWO_PLACES, has_places, made};
+use test_support::instances::{Members, TWO_BY_TWO, TWO_PLACES, has_places, instance_of};
 
 // A core with its instance, made of these members, before any event.
-fn begin(alloc: Global, members: Members, cap: Capacity) -> Result<Run, CoreFault> {
-    match made(alloc, members) {
+fn new_run(alloc: Global, members: Members, cap: Capacity) -> Result<Run, CoreFault> {
+    match instance_of(alloc, members) {
         Ok(inst) => Run::new(alloc, inst, cap),
         Err(_) => Err(CoreFault::Memory),
     }
@@ -24,10 +24,18 @@ fn begin(alloc: Global, members: Members, cap: Capacity) -> Result<Run, CoreFaul
 
 #[test]
 fn heeds_the_capacity(rt: HostRuntime) {
-    let bad = Some(CoreFault::BadCapacity);
-    for (n, fault) in [(0, bad), (1, None), (1_024, None), (1_025, bad)] {
-        let cap = Capacity::Each(n);
-        assert!(rt; begin(rt.alloc(), TWO_BY_TWO, cap).err() == fault, "{n}");
+    let bad_capacity = Some(CoreFault::BadCapacity);
+    for (room, fault) in [
+        (0, bad_capacity),
+        (1, None),
+        (1_024, None),
+        (1_025, bad_capacity),
+    ] {
+        let cap = Capacity::Each(room);
+        assert!(rt;
+            new_run(rt.alloc(), TWO_BY_TWO, cap).err() == fault,
+            "{room}"
+        );
     }
 }
 
@@ -42,33 +50,33 @@ fn prints_its_faults(rt: HostRuntime) -> Result<(), Fail> {
     Ok(())
 }
 
-// Whether the core accepts these events, and then refuses the event `last` for this cause.
-fn refuses_last(run: &mut Run, events: &[Event], last: Event, why: Refused) -> bool {
+// Whether the core accepts these events, and then refuses the event `last_event` for this cause.
+fn refuses_last(run: &mut Run, events: &[Event], last_event: Event, cause: Refused) -> bool {
     for event in events {
         if run.step(*event).is_err() {
             return false;
         }
     }
-    let (again, cause) = (last, why);
-    run.may(last) == Err(why) && run.step(again) == Err(cause)
+    let (same_event, same_cause) = (last_event, cause);
+    run.may(last_event) == Err(cause) && run.step(same_event) == Err(same_cause)
 }
 
-// Whether a new core accepts these events, and then refuses the event `last` for this cause.
+// Whether a new core accepts these events, and then refuses the event `last_event` for this cause.
 fn refuses(
     alloc: Global,
-    start: (Members, Capacity),
+    members_and_capacity: (Members, Capacity),
     events: &[Event],
-    last: Event,
-    why: Refused,
+    last_event: Event,
+    cause: Refused,
 ) -> bool {
-    match begin(alloc, start.0, start.1) {
-        Ok(mut run) => refuses_last(&mut run, events, last, why),
+    match new_run(alloc, members_and_capacity.0, members_and_capacity.1) {
+        Ok(mut run) => refuses_last(&mut run, events, last_event, cause),
         Err(_) => false,
     }
 }
 
 // Whether the core accepts these events, and then has this rank of the offer that X took last.
-fn takes_last(run: &mut Run, events: &[Event], rank: u32) -> bool {
+fn run_takes_rank(run: &mut Run, events: &[Event], rank: u32) -> bool {
     for event in events {
         if run.step(*event).is_err() {
             return false;
@@ -78,64 +86,70 @@ fn takes_last(run: &mut Run, events: &[Event], rank: u32) -> bool {
 }
 
 // Whether a new core accepts these events, and then has this rank of the offer that X took last.
-fn takes(alloc: Global, events: &[Event], rank: u32) -> bool {
-    match begin(alloc, TWO_PLACES, Capacity::Full) {
-        Ok(mut run) => takes_last(&mut run, events, rank),
+fn takes_rank(alloc: Global, events: &[Event], rank: u32) -> bool {
+    match new_run(alloc, TWO_PLACES, Capacity::Full) {
+        Ok(mut run) => run_takes_rank(&mut run, events, rank),
         Err(_) => false,
     }
 }
 
 #[test]
 fn knows_the_rank_taken_last(rt: HostRuntime) {
-    let all = nineteen_events();
-    for (count, rank) in [(3, 0), (4, 1), (8, 0)] {
-        let events = &all[..count.min(19)];
-        assert!(rt; takes(rt.alloc(), events, rank), "{count}");
+    let all_events = nineteen_events();
+    for (event_count, rank) in [(3, 0), (4, 1), (8, 0)] {
+        let events = &all_events[..event_count.min(19)];
+        assert!(rt; takes_rank(rt.alloc(), events, rank), "{event_count}");
     }
 }
 
-const LARGE: (Members, Capacity) = (TWO_PLACES, Capacity::Full);
+const LARGE_MARKET: (Members, Capacity) = (TWO_PLACES, Capacity::Full);
 
-const NARROW: (Members, Capacity) = (TWO_PLACES, Capacity::Each(1));
+const NARROW_MARKET: (Members, Capacity) = (TWO_PLACES, Capacity::Each(1));
 
-const SMALL: (Members, Capacity) = (TWO_BY_TWO, Capacity::Full);
+const SMALL_MARKET: (Members, Capacity) = (TWO_BY_TWO, Capacity::Full);
 
 #[test]
 fn refuses_after_the_nineteen(rt: HostRuntime) {
-    let all = nineteen_events();
+    let all_events = nineteen_events();
     let pending = Refused::StillPending(Pending::Answers(A));
-    for (count, last, why) in [
+    for (event_count, last_event, cause) in [
         (0, take(X, A), Refused::NothingWaiting),
         (13, Event::Close, pending),
         (11, hear(A, X, RELEASE), Refused::WrongFront),
         (19, take(X, A), Refused::Closed),
         (0, offer(A, Y), Refused::NotNext),
     ] {
-        let events = &all[..count.min(19)];
-        assert!(rt; refuses(rt.alloc(), LARGE, events, last, why), "{why:?}");
+        let events = &all_events[..event_count.min(19)];
+        assert!(rt;
+            refuses(rt.alloc(), LARGE_MARKET, events, last_event, cause),
+            "{cause:?}"
+        );
     }
 }
 
 #[test]
 fn refuses_after_others(rt: HostRuntime) {
-    let decided = [
+    let first_events = [
         offer(A, X),
         offer(B, X),
         take(X, A),
         answer(X, A, HOLD),
         take(X, B),
     ];
-    let declined = answer(X, B, DECLINE);
-    let stranger = take(ResidentNo(7), A);
-    for (start, count, last, why) in [
-        (LARGE, 3, take(X, B), Refused::AnswerDue),
-        (LARGE, 5, declined, Refused::NotDue),
-        (NARROW, 1, offer(B, X), Refused::MailboxFull),
-        (SMALL, 1, offer(A, Y), Refused::NoPlace),
-        (SMALL, 0, stranger, Refused::NoSuchDesk),
+    let early_decline = answer(X, B, DECLINE);
+    let strange_take = take(ResidentNo(7), A);
+    for (members_and_capacity, event_count, last_event, cause) in [
+        (LARGE_MARKET, 3, take(X, B), Refused::AnswerDue),
+        (LARGE_MARKET, 5, early_decline, Refused::NotDue),
+        (NARROW_MARKET, 1, offer(B, X), Refused::MailboxFull),
+        (SMALL_MARKET, 1, offer(A, Y), Refused::NoPlace),
+        (SMALL_MARKET, 0, strange_take, Refused::NoSuchDesk),
     ] {
-        let events = &decided[..count.min(5)];
-        assert!(rt; refuses(rt.alloc(), start, events, last, why), "{why:?}");
+        let events = &first_events[..event_count.min(5)];
+        assert!(rt;
+            refuses(rt.alloc(), members_and_capacity, events, last_event, cause),
+            "{cause:?}"
+        );
     }
 }
 
@@ -145,7 +159,7 @@ const WRONG_FRONT: Option<Refused> = Some(Refused::WrongFront);
 
 // For each of the nineteen events, another event that is tried after it, and the cause that refuses this other
 // event, or none.
-fn others() -> [(Event, Option<Refused>); 19] {
+fn events_tried_after() -> [(Event, Option<Refused>); 19] {
     [
         (offer(A, Y), None),
         (offer(A, Z), NO_PLACE),
@@ -170,7 +184,7 @@ fn others() -> [(Event, Option<Refused>); 19] {
 }
 
 // What the core shows of the programme A and the resident X after each of the nineteen events.
-const SEEN: [Seen; 19] = [
+const CORE_VIEWS: [CoreView; 19] = [
     (Some(Pending::Offers(X)), Some(Y), None, None),
     (Some(Pending::Offers(X)), None, None, None),
     (Some(Pending::Offers(X)), None, None, None),
@@ -194,19 +208,26 @@ const SEEN: [Seen; 19] = [
 
 // Whether the core answers as expected to the other event, shows what it should of A and X, and is closed exactly if
 // it should be.
-fn shows(run: &Run, other_event: &(Event, Option<Refused>), seen: &Seen, is_closed: bool) -> bool {
+fn shows(
+    run: &Run,
+    other_event: &(Event, Option<Refused>),
+    view: &CoreView,
+    is_closed: bool,
+) -> bool {
     run.may(other_event.0).err() == other_event.1
-        && run.seen(A, X) == *seen
+        && run.core_view(A, X) == *view
         && run.core.is_closed() == is_closed
 }
 
 // The number, from 1, of the first of the nineteen events that the core refuses, or after which it doesn't show
 // what it should.
-fn first_wrong(run: &mut Run) -> Option<usize> {
-    let (events, others) = (nineteen_events(), others());
-    for at in 0..19_usize {
-        if run.step(events[at]).is_err() || !shows(run, &others[at], &SEEN[at], at == 18) {
-            return Some(at + 1);
+fn first_wrong_event(run: &mut Run) -> Option<usize> {
+    let (events, other_events) = (nineteen_events(), events_tried_after());
+    for index in 0..19_usize {
+        if run.step(events[index]).is_err()
+            || !shows(run, &other_events[index], &CORE_VIEWS[index], index == 18)
+        {
+            return Some(index + 1);
         }
     }
     None
@@ -215,17 +236,20 @@ fn first_wrong(run: &mut Run) -> Option<usize> {
 #[test]
 fn shows_what_is_left(rt: HostRuntime) {
     let mut is_right = false;
-    if let Ok(mut run) = begin(rt.alloc(), TWO_PLACES, Capacity::Full) {
-        assert!(rt; first_wrong(&mut run) == None);
-        let places = run.assignment(rt.alloc());
-        is_right = places.is_ok_and(|places| has_places(&places, &[Some(1), Some(0), Some(0)]));
+    if let Ok(mut run) = new_run(rt.alloc(), TWO_PLACES, Capacity::Full) {
+        assert!(rt; first_wrong_event(&mut run) == None);
+        let assignment = run.assignment(rt.alloc());
+        is_right = assignment.is_ok_and(|assignment| has_places(
+            &assignment,
+            &[Some(1), Some(0), Some(0)],
+        ));
     }
     assert!(rt; is_right);
 }
 
 // Enters some event that may follow, again and again, and returns how many events there are up to the close. The
 // result is none if one of these events is refused, or if the exchange does not close.
-fn turns(run: &mut Run) -> Option<u32> {
+fn turns_to_close(run: &mut Run) -> Option<u32> {
     for turn in 0..=25 {
         let Some(event) = run.some_enabled() else {
             return if run.core.is_closed() {
@@ -243,19 +267,22 @@ fn turns(run: &mut Run) -> Option<u32> {
 
 #[test]
 fn always_finds_an_event(rt: HostRuntime) {
-    let mut taken = None;
-    if let Ok(mut run) = begin(rt.alloc(), TWO_PLACES, Capacity::Each(1)) {
-        taken = turns(&mut run);
+    let mut turns = None;
+    if let Ok(mut run) = new_run(rt.alloc(), TWO_PLACES, Capacity::Each(1)) {
+        turns = turns_to_close(&mut run);
     }
-    assert!(rt; taken == Some(17) || taken == Some(19));
+    assert!(rt; turns == Some(17) || turns == Some(19));
 }
 
 // Every event between members of the instance.
-fn events(alloc: Global, inst: &Instance) -> Result<Vec<Event>, AllocError> {
+fn possible_events(alloc: Global, inst: &Instance) -> Result<Vec<Event>, AllocError> {
     let mut events = Vec::new(alloc);
-    for p in 0..inst.programmes() {
-        for r in 0..inst.residents() {
-            let (programme, resident) = (ProgrammeNo(p), ResidentNo(r));
+    for programme_number in 0..inst.programmes() {
+        for resident_number in 0..inst.residents() {
+            let (programme, resident) = (
+                ProgrammeNo(programme_number),
+                ResidentNo(resident_number),
+            );
             events.push(offer(programme, resident))?;
             events.push(take(resident, programme))?;
             for kind in [HOLD, DECLINE, RELEASE] {
@@ -270,16 +297,16 @@ fn events(alloc: Global, inst: &Instance) -> Result<Vec<Event>, AllocError> {
 
 // Whether the core and the slow definitions agree about this event: that it may follow the earlier events, or for
 // which cause it may not.
-fn agrees_on_one(run: &Run, cap: Capacity, earlier: &[Event], event: Event) -> bool {
+fn agrees_on_one(run: &Run, cap: Capacity, earlier_events: &[Event], event: Event) -> bool {
     let same_event = event;
-    let slow = slow::refusal(&run.inst, cap, earlier, event);
-    slow::is_same(run.may(same_event), slow)
+    let slow_refusal = slow::refusal(&run.inst, cap, earlier_events, event);
+    slow::is_same(run.may(same_event), slow_refusal)
 }
 
 // Whether the core and the slow definitions agree about each of these events after the earlier events.
-fn agrees_after(run: &Run, cap: Capacity, earlier: &[Event], events: &[Event]) -> bool {
+fn agrees_after(run: &Run, cap: Capacity, earlier_events: &[Event], events: &[Event]) -> bool {
     for event in events {
-        if !agrees_on_one(run, cap, earlier, *event) {
+        if !agrees_on_one(run, cap, earlier_events, *event) {
             return false;
         }
     }
@@ -288,14 +315,14 @@ fn agrees_after(run: &Run, cap: Capacity, earlier: &[Event], events: &[Event]) -
 
 // Whether the core and the slow definitions agree about all events after each beginning of the list, from the empty
 // list to the whole list.
-fn agrees(run: &mut Run, cap: Capacity, events: &[Event], list: &[Event]) -> bool {
-    for place in 0..=list.len() {
-        let (earlier, later) = list.split_at(place);
-        if !agrees_after(run, cap, earlier, events) {
+fn agrees(run: &mut Run, cap: Capacity, events: &[Event], legal_events: &[Event]) -> bool {
+    for place in 0..=legal_events.len() {
+        let (earlier_events, later_events) = legal_events.split_at(place);
+        if !agrees_after(run, cap, earlier_events, events) {
             return false;
         }
-        if let Some(next) = later.first()
-            && run.step(*next).is_err()
+        if let Some(next_event) = later_events.first()
+            && run.step(*next_event).is_err()
         {
             return false;
         }
@@ -309,13 +336,13 @@ fn agrees_on(
     alloc: Global,
     members: Members,
     cap: Capacity,
-    list: &[Event],
+    legal_events: &[Event],
 ) -> Result<bool, AllocError> {
-    let Ok(mut run) = begin(alloc, members, cap) else {
+    let Ok(mut run) = new_run(alloc, members, cap) else {
         return Ok(false);
     };
-    let events = events(alloc, &run.inst)?;
-    Ok(agrees(&mut run, cap, events.as_slice(), list))
+    let events = possible_events(alloc, &run.inst)?;
+    Ok(agrees(&mut run, cap, events.as_slice(), legal_events))
 }
 
 #[test]

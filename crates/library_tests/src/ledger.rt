@@ -15,16 +15,16 @@ use std::sync::Wait;
 use std::sync::ledger::Blank;
 use std::test::Fail;
 use test_support::events::{A, X, nine_events, nineteen_events};
-use test_support::instances::{TWO_BY_TWO, TWO_PLACES, made};
+use test_support::instances::{TWO_BY_TWO, TWO_PLACES, instance_of};
 
 // Ends in memory, each with room for `room` notes.
 #[tactic(auto, using(match_model::proofs::Prefixes::slice_get_push_parts))]
-fn lists<M: Drop>(alloc: Global, count: u32, room: u32) -> Result<Vec<ListPut<M>>, MailFault>
+fn lists<M: Drop>(alloc: Global, end_count: u32, room: u32) -> Result<Vec<ListPut<M>>, MailFault>
     ensures { IfOk result (λ ends. (i : ℕ) (end : PutList M)
         → slice_get ends.items i ≡ Some end → end.puts ≡ []) }
 {
     let mut ends = Vec::new(alloc);
-    for _ in 0..count {
+    for _ in 0..end_count {
         let Ok(()) = ends.push(ListPut::with_room(alloc, room)?) else {
             return Err(MailFault::Memory);
         };
@@ -37,7 +37,7 @@ fn lists<M: Drop>(alloc: Global, count: u32, room: u32) -> Result<Vec<ListPut<M>
 fn mailboxes<M: Copy + Eq + Drop, R: Wait + Copy + Drop>(
     alloc: Global,
     rt: R,
-    count: u32,
+    mailbox_count: u32,
     room: u32,
 ) -> Result<(Vec<RuledPut<M, R>>, Vec<RuledTake<M, R>>), MailFault>
     ensures { IfOk result (λ ends. (i : ℕ) (end : PutSide M)
@@ -45,7 +45,7 @@ fn mailboxes<M: Copy + Eq + Drop, R: Wait + Copy + Drop>(
 {
     let mut puts = Vec::new(alloc);
     let mut takes = Vec::new(alloc);
-    for _ in 0..count {
+    for _ in 0..mailbox_count {
         let (put, take) = mailbox(alloc, rt, room)?;
         let (Ok(()), Ok(())) = (puts.push(put), takes.push(take)) else {
             return Err(MailFault::Memory);
@@ -96,11 +96,11 @@ fn answers_each<J: ExchangeIdentity, P: PutEnd<OfferNote>, Q: PutEnd<AnswerNote>
 ) -> bool
     requires { inst.now ≡ J.inst }
 {
-    let mut are_right = true;
+    let mut answers_are_right = true;
     for event in events {
-        are_right = enter(ledger, inst, tally, *event) == wanted && are_right;
+        answers_are_right = enter(ledger, inst, tally, *event) == wanted && answers_are_right;
     }
-    are_right
+    answers_are_right
 }
 
 // Whether the journal has exactly these events, and the tally counts all of them. The tally has all parts of
@@ -125,13 +125,13 @@ fn enters_all<J: ExchangeIdentity, P: PutEnd<OfferNote> + Drop, Q: PutEnd<Answer
 ) -> bool
     requires { inst.now ≡ J.inst }
 {
-    let closed = Err(EntryRefused::Step(Refused::Closed));
-    let are_right = answers_each(&mut ledger, inst, &mut tally, events, Ok(()))
-        && ledger.close(inst, &mut tally) == closed
+    let closed_refusal = Err(EntryRefused::Step(Refused::Closed));
+    let entries_are_right = answers_each(&mut ledger, inst, &mut tally, events, Ok(()))
+        && ledger.close(inst, &mut tally) == closed_refusal
         && shows(&mut ledger, &mut tally, events)
         && ledger.core().is_closed();
     let (journal, _core, _offer_ends, _answer_ends, who) = ledger.into_parts();
-    are_right && journal.as_slice() == events && who.iter().all(|worker| *worker == 0)
+    entries_are_right && journal.as_slice() == events && who.iter().all(|worker| *worker == 0)
 }
 
 // Whether the ledger enters no event, since the ends have no room.
@@ -142,15 +142,15 @@ fn enters_nothing<J: ExchangeIdentity, P: PutEnd<OfferNote>, Q: PutEnd<AnswerNot
 ) -> bool
     requires { inst.now ≡ J.inst }
 {
-    let full = EntryRefused::PutRefused(PutRefusal::Full);
-    let pending = EntryRefused::Step(Refused::StillPending(Pending::Wish(A)));
-    ledger.enter_offer(inst, tally, A, X) == Err(full)
+    let full_refusal = EntryRefused::PutRefused(PutRefusal::Full);
+    let pending_refusal = EntryRefused::Step(Refused::StillPending(Pending::Wish(A)));
+    ledger.enter_offer(inst, tally, A, X) == Err(full_refusal)
         && shows(ledger, tally, &[])
-        && ledger.close(inst, tally) == Err(pending)
+        && ledger.close(inst, tally) == Err(pending_refusal)
 }
 
 // Whether the first of two tallies has all parts of the count except one, and the other has this one part.
-fn are_cut<J: ExchangeIdentity>(first_tally: &Tally<J>, other_tally: &Tally<J>) -> bool {
+fn have_split_parts<J: ExchangeIdentity>(first_tally: &Tally<J>, other_tally: &Tally<J>) -> bool {
     (
         first_tally.worker(),
         first_tally.parts(),
@@ -174,16 +174,16 @@ fn counts_apart<J: ExchangeIdentity, P: PutEnd<OfferNote>, Q: PutEnd<AnswerNote>
     requires { inst.now ≡ J.inst }
 {
     let mut other_tally = other_tally;
-    let all = nine_events();
-    let (first_events, later_events) = all.split_at(5);
-    let are_right = are_cut(tally, &other_tally)
+    let all_events = nine_events();
+    let (first_events, later_events) = all_events.split_at(5);
+    let counts_are_right = have_split_parts(tally, &other_tally)
         && answers_each(ledger, inst, tally, first_events, Ok(()))
         && answers_each(ledger, inst, &mut other_tally, later_events, Ok(()))
         && tally.entered() == 5
         && other_tally.entered() == 4;
     tally.join(other_tally);
-    are_right
-        && shows(ledger, tally, &all)
+    counts_are_right
+        && shows(ledger, tally, &all_events)
         && ledger.who() == [0, 0, 0, 0, 0, 1, 1, 1, 1].as_slice()
         && tally.worker() == 0
         && tally.parts() == PARTS
@@ -197,20 +197,20 @@ fn keeps_its_journal<J: ExchangeIdentity, P: PutEnd<OfferNote>, Q: PutEnd<Answer
 ) -> bool
     requires { inst.now ≡ J.inst }
 {
-    let all = nine_events();
-    let five = &all[..5];
-    if !answers_each(ledger, inst, tally, five, Ok(())) {
+    let all_events = nine_events();
+    let first_five = &all_events[..5];
+    if !answers_each(ledger, inst, tally, first_five, Ok(())) {
         return false;
     }
     ledger.spoil();
-    answers_each(ledger, inst, tally, &all, Err(EntryRefused::Spoiled))
-        && shows(ledger, tally, five)
+    answers_each(ledger, inst, tally, &all_events, Err(EntryRefused::Spoiled))
+        && shows(ledger, tally, first_five)
 }
 
 // What a test does with a ledger over ends in memory.
 #[derive(Clone, Copy)]
 enum Trial {
-    All,
+    AllEvents,
     RefusedPut,
     TwoWorkers,
     Spoiled,
@@ -250,10 +250,10 @@ fn does<J: ExchangeIdentity>(
         return Ok(false);
     };
     match trial {
-        Trial::All => Ok(enters_all(ledger, inst, tally, &nine_events())),
+        Trial::AllEvents => Ok(enters_all(ledger, inst, tally, &nine_events())),
         Trial::RefusedPut => Ok(enters_nothing(&mut ledger, inst, &mut tally)),
         Trial::TwoWorkers => match tallies.next() {
-            Some(other) => Ok(counts_apart(&mut ledger, inst, &mut tally, other)),
+            Some(other_tally) => Ok(counts_apart(&mut ledger, inst, &mut tally, other_tally)),
             None => Ok(false),
         },
         Trial::Spoiled => Ok(keeps_its_journal(&mut ledger, inst, &mut tally)),
@@ -263,7 +263,7 @@ fn does<J: ExchangeIdentity>(
 // Whether a ledger of two programmes and two residents does what it should in this trial, over ends with room for
 // `room` notes.
 fn small_does(alloc: Global, workers: u32, room: u32, trial: Trial) -> Result<bool, MailFault> {
-    let Ok(inst) = made(alloc, TWO_BY_TWO) else {
+    let Ok(inst) = instance_of(alloc, TWO_BY_TWO) else {
         return Err(MailFault::Memory);
     };
     does::<Brand>(
@@ -280,8 +280,8 @@ fn small_does(alloc: Global, workers: u32, room: u32, trial: Trial) -> Result<bo
 #[test]
 fn over_lists(rt: HostRuntime) -> Result<(), Fail> {
     for (workers, room, trial) in [
-        (1, 4, Trial::All),
-        (8, 4, Trial::All),
+        (1, 4, Trial::AllEvents),
+        (8, 4, Trial::AllEvents),
         (1, 0, Trial::RefusedPut),
         (2, 4, Trial::TwoWorkers),
         (1, 4, Trial::Spoiled),
@@ -326,7 +326,7 @@ fn enters_posted<J: ExchangeIdentity, R: Wait + Copy + Drop>(
 #[test]
 fn over_mailboxes(rt: HostRuntime) -> Result<(), Fail> {
     let alloc = rt.alloc();
-    let inst = made(alloc, TWO_PLACES)?;
+    let inst = instance_of(alloc, TWO_PLACES)?;
     let entered = enters_posted::<Brand, HostRuntime>(
         rt,
         alloc,
@@ -370,7 +370,7 @@ fn not_opened<J: ExchangeIdentity>(
 #[test]
 fn refused_opening(rt: HostRuntime) -> Result<(), Fail> {
     let alloc = rt.alloc();
-    let inst = made(alloc, TWO_BY_TWO)?;
+    let inst = instance_of(alloc, TWO_BY_TWO)?;
     for (residents, cap, workers, fault) in [
         (1, Capacity::Full, 1, LedgerFault::WrongEnds),
         (1, Capacity::Each(0), 0, LedgerFault::WrongEnds),
@@ -379,9 +379,16 @@ fn refused_opening(rt: HostRuntime) -> Result<(), Fail> {
         (2, Capacity::Full, 0, LedgerFault::BadWorkers),
         (2, Capacity::Full, 9, LedgerFault::BadWorkers),
     ] {
-        let refused = not_opened::<Brand>(alloc, Blank::new(8), &inst, cap, workers, residents);
+        let opening_refusal = not_opened::<Brand>(
+            alloc,
+            Blank::new(8),
+            &inst,
+            cap,
+            workers,
+            residents,
+        );
         assert!(rt;
-            refused == Ok(Some((fault, residents as usize, 2))),
+            opening_refusal == Ok(Some((fault, residents as usize, 2))),
             "{cap:?}, {workers} workers"
         );
     }

@@ -20,26 +20,35 @@ fn three_each<P: PutEnd<u32>, T: TakeEnd<u32>>(
     mut put: P,
     mut take: T,
 ) -> ([PutReply<u32>; 3], [TakeReply<u32>; 3], P, T) {
-    let first = put.put(5);
-    let second = put.put(6);
-    let third = put.put(7);
-    let put_replies = [first, second, third];
-    let first = take.take();
-    let second = take.take();
-    let third = take.take();
-    (put_replies, [first, second, third], put, take)
+    let first_put = put.put(5);
+    let second_put = put.put(6);
+    let third_put = put.put(7);
+    let put_replies = [first_put, second_put, third_put];
+    let first_take = take.take();
+    let second_take = take.take();
+    let third_take = take.take();
+    (
+        put_replies,
+        [first_take, second_take, third_take],
+        put,
+        take,
+    )
 }
 
-const PUT: [PutReply<u32>; 3] = [PutReply::Done, PutReply::Done, PutReply::Full(7)];
+const PUT_REPLIES: [PutReply<u32>; 3] = [PutReply::Done, PutReply::Done, PutReply::Full(7)];
 
-const TAKEN: [TakeReply<u32>; 3] = [TakeReply::Got(5), TakeReply::Got(6), TakeReply::Nothing];
+const TAKE_REPLIES: [TakeReply<u32>; 3] = [
+    TakeReply::Got(5),
+    TakeReply::Got(6),
+    TakeReply::Nothing,
+];
 
 #[test]
 fn two_places(rt: HostRuntime) -> Result<(), Fail> {
     let (put, take) = mailbox(rt.alloc(), rt, 2)?;
-    let (puts, takes, _put, _take) = three_each(put, take);
-    assert!(rt; puts == PUT);
-    assert!(rt; takes == TAKEN);
+    let (put_replies, take_replies, _put, _take) = three_each(put, take);
+    assert!(rt; put_replies == PUT_REPLIES);
+    assert!(rt; take_replies == TAKE_REPLIES);
     Ok(())
 }
 
@@ -47,9 +56,9 @@ fn two_places(rt: HostRuntime) -> Result<(), Fail> {
 fn two_places_in_memory(rt: HostRuntime) -> Result<(), Fail> {
     let put = ListPut::with_room(rt.alloc(), 2)?;
     let take = ListTake::of([5, 6].to_vec(rt.alloc())?);
-    let (puts, takes, _put, _take) = three_each(put, take);
-    assert!(rt; puts == PUT);
-    assert!(rt; takes == TAKEN);
+    let (put_replies, take_replies, _put, _take) = three_each(put, take);
+    assert!(rt; put_replies == PUT_REPLIES);
+    assert!(rt; take_replies == TAKE_REPLIES);
     Ok(())
 }
 
@@ -134,99 +143,99 @@ fn notes(rt: HostRuntime) -> Result<(), Fail> {
     Ok(())
 }
 
-// Puts all numbers below `count`, in order.
-fn put_all<R: Wait + Copy>(mut put: RuledPut<u32, R>, count: u32) -> RuledPut<u32, R>
+// Puts all numbers below `bound`, in order.
+fn put_all<R: Wait + Copy>(mut put: RuledPut<u32, R>, bound: u32) -> RuledPut<u32, R>
     ensures { result.mailbox ≡ put.mailbox }
 {
-    let mut next = 0;
+    let mut next_number = 0;
     for _ in 0..TURNS {
-        if next >= count {
+        if next_number >= bound {
             break;
         }
-        match put.put(next) {
-            PutReply::Done => next += 1,
+        match put.put(next_number) {
+            PutReply::Done => next_number += 1,
             PutReply::Full(_) | PutReply::Gone(_) => thread::yield_now(),
         }
     }
     put
 }
 
-// Takes numbers until `into` has `count` numbers.
+// Takes numbers until `taken_numbers` has `number_count` numbers.
 fn take_all<R: Wait + Copy>(
     mut take: RuledTake<u32, R>,
-    mut into: Vec<u32>,
-    count: usize,
+    mut taken_numbers: Vec<u32>,
+    number_count: usize,
 ) -> (RuledTake<u32, R>, Vec<u32>)
     ensures { result.0.mailbox ≡ take.mailbox }
 {
     for _ in 0..TURNS {
-        if into.len() >= count {
+        if taken_numbers.len() >= number_count {
             break;
         }
         match take.take() {
             TakeReply::Got(number) => {
-                let Ok(()) = into.push(number) else {
+                let Ok(()) = taken_numbers.push(number) else {
                     break;
                 };
             }
             TakeReply::Nothing | TakeReply::Gone => thread::yield_now(),
         }
     }
-    (take, into)
+    (take, taken_numbers)
 }
 
-// Puts all numbers below `count`, in order, and takes `count` numbers.
+// Puts all numbers below `bound`, in order, and takes as many numbers.
 fn exchange<R: Wait + Copy>(
     mut put: RuledPut<u32, R>,
     mut take: RuledTake<u32, R>,
-    mut into: Vec<u32>,
-    count: u32,
+    mut taken_numbers: Vec<u32>,
+    bound: u32,
 ) -> (RuledPut<u32, R>, RuledTake<u32, R>, Vec<u32>)
     ensures { (result.0.mailbox ≡ put.mailbox) × (result.1.mailbox ≡ take.mailbox) }
 {
-    let mut next = 0;
+    let mut next_number = 0;
     for _ in 0..TURNS {
-        if next < count && matches!(put.put(next), PutReply::Done) {
-            next += 1;
+        if next_number < bound && matches!(put.put(next_number), PutReply::Done) {
+            next_number += 1;
         }
         match take.take() {
             TakeReply::Got(number) => {
-                let Ok(()) = into.push(number) else {
+                let Ok(()) = taken_numbers.push(number) else {
                     break;
                 };
             }
             TakeReply::Nothing | TakeReply::Gone => thread::yield_now(),
         }
-        if into.len() >= count as usize {
+        if taken_numbers.len() >= bound as usize {
             break;
         }
     }
-    (put, take, into)
+    (put, take, taken_numbers)
 }
 
-// Takes `count` numbers, and puts each of them into the other mailbox.
+// Takes `number_count` numbers, and puts each of them into the other mailbox.
 fn pass_on<R: Wait + Copy>(
     mut take: RuledTake<u32, R>,
     mut put: RuledPut<u32, R>,
-    count: u32,
+    number_count: u32,
 ) -> (RuledTake<u32, R>, RuledPut<u32, R>)
     ensures { (result.0.mailbox ≡ take.mailbox) × (result.1.mailbox ≡ put.mailbox) }
 {
-    let mut passed = 0;
-    let mut held = None;
+    let mut passed_count = 0;
+    let mut held_number = None;
     for _ in 0..TURNS {
-        if passed >= count {
+        if passed_count >= number_count {
             break;
         }
-        if held.is_none()
+        if held_number.is_none()
             && let TakeReply::Got(number) = take.take()
         {
-            held = Some(number);
+            held_number = Some(number);
         }
-        match held {
+        match held_number {
             Some(number) if matches!(put.put(number), PutReply::Done) => {
-                held = None;
-                passed += 1;
+                held_number = None;
+                passed_count += 1;
             }
             _ => thread::yield_now(),
         }
@@ -235,69 +244,69 @@ fn pass_on<R: Wait + Copy>(
 }
 
 // The numbers that went through a mailbox from one thread to another.
-fn relayed<R: Threads + Wait + Sync + Send + Copy>(
+fn relayed_numbers<R: Threads + Wait + Sync + Send + Copy>(
     rt: R,
     alloc: Global,
     capacity: u32,
-    count: u32,
+    bound: u32,
 ) -> Result<Vec<u32>, Fail> {
     let (put, take) = mailbox(alloc, rt, capacity)?;
-    let into = Vec::with_capacity(alloc, count as usize)?;
+    let taken_numbers = Vec::with_capacity(alloc, bound as usize)?;
     let (put, (take, numbers)) = thread::join(
         &rt,
-        move || put_all(put, count),
-        move || take_all(take, into, count as usize),
+        move || put_all(put, bound),
+        move || take_all(take, taken_numbers, bound as usize),
     );
     let (_put, _take) = agree(put, take);
     Ok(numbers)
 }
 
-// Whether these are all numbers below `count`, in order.
-fn is_counted(numbers: &[u32], count: u32) -> bool {
-    numbers.len() == count as usize
+// Whether these are all numbers below `bound`, in order.
+fn is_counted(numbers: &[u32], bound: u32) -> bool {
+    numbers.len() == bound as usize
         && numbers
             .iter()
-            .zip(0..count)
-            .all(|(n, expected)| *n == expected)
+            .zip(0..bound)
+            .all(|(number, expected)| *number == expected)
 }
 
 #[test]
 fn relay(rt: HostRuntime) -> Result<(), Fail> {
-    let numbers = relayed(rt, rt.alloc(), 8, 10_000)?;
+    let numbers = relayed_numbers(rt, rt.alloc(), 8, 10_000)?;
     assert!(rt; is_counted(numbers.as_slice(), 10_000));
     Ok(())
 }
 
 #[test]
 fn relay_one_by_one(rt: HostRuntime) -> Result<(), Fail> {
-    let numbers = relayed(rt, rt.alloc(), 1, 10_000)?;
+    let numbers = relayed_numbers(rt, rt.alloc(), 1, 10_000)?;
     assert!(rt; is_counted(numbers.as_slice(), 10_000));
     Ok(())
 }
 
 // The numbers that went through one mailbox to another thread, and through a second mailbox back.
-fn returned<R: Threads + Wait + Sync + Send + Copy>(
+fn returned_numbers<R: Threads + Wait + Sync + Send + Copy>(
     rt: R,
     alloc: Global,
     capacity: u32,
-    count: u32,
+    bound: u32,
 ) -> Result<Vec<u32>, Fail> {
-    let (there, here) = mailbox(alloc, rt, capacity)?;
-    let (back, home) = mailbox(alloc, rt, capacity)?;
-    let into = Vec::with_capacity(alloc, count as usize)?;
-    let ((there, home, numbers), (here, back)) = thread::join(
+    let (outward_put, outward_take) = mailbox(alloc, rt, capacity)?;
+    let (return_put, return_take) = mailbox(alloc, rt, capacity)?;
+    let taken_numbers = Vec::with_capacity(alloc, bound as usize)?;
+    let ((outward_put, return_take, numbers), (outward_take, return_put)) = thread::join(
         &rt,
-        move || exchange(there, home, into, count),
-        move || pass_on(here, back, count),
+        move || exchange(outward_put, return_take, taken_numbers, bound),
+        move || pass_on(outward_take, return_put, bound),
     );
-    let (_there, _here) = agree(there, here);
-    let (_back, _home) = agree(back, home);
+    let (_outward_put, _outward_take) = agree(outward_put, outward_take);
+    let (_return_put, _return_take) = agree(return_put, return_take);
     Ok(numbers)
 }
 
 #[test]
 fn there_and_back(rt: HostRuntime) -> Result<(), Fail> {
-    let numbers = returned(rt, rt.alloc(), 8, 10_000)?;
+    let numbers = returned_numbers(rt, rt.alloc(), 8, 10_000)?;
     assert!(rt; is_counted(numbers.as_slice(), 10_000));
     Ok(())
 }

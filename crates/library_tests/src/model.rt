@@ -5,11 +5,11 @@ use match_model::{
 use std::alloc::Global;
 use std::test::Fail;
 use test_support::events::{A, B, X, Y, Z};
-use test_support::markets::{TEN, all_residents, made_in_one_order};
-use test_support::members::{is_programme, is_resident};
+use test_support::markets::{TEN_PROGRAMMES, all_residents, made_in_one_order};
+use test_support::members::{has_list, has_quota_and_list};
 
 // A builder with one programme, which has one place, and with one resident.
-fn one_of_each(alloc: Global) -> Result<InstanceBuilder, ModelFault> {
+fn two_member_builder(alloc: Global) -> Result<InstanceBuilder, ModelFault> {
     let mut builder = InstanceBuilder::new(alloc);
     builder.add_programme(1)?;
     builder.add_resident()?;
@@ -26,21 +26,21 @@ fn heeds_the_quota(rt: HostRuntime) {
 
 #[test]
 fn refuses_in_order(rt: HostRuntime) -> Result<(), Fail> {
-    let mut builder = one_of_each(rt.alloc())?;
-    let of_programme: [(&[ResidentNo], Result<(), ModelFault>); 3] = [
+    let mut builder = two_member_builder(rt.alloc())?;
+    let programme_lists: [(&[ResidentNo], Result<(), ModelFault>); 3] = [
         (&[Y], Err(ModelFault::NoSuchMember)),
         (&[X], Ok(())),
         (&[X], Err(ModelFault::ListGivenTwice)),
     ];
-    for (list, wanted) in of_programme {
+    for (list, wanted) in programme_lists {
         assert!(rt; builder.programme_list(A, list) == wanted);
     }
-    let of_resident: [(&[ProgrammeNo], Result<(), ModelFault>); 3] = [
+    let resident_lists: [(&[ProgrammeNo], Result<(), ModelFault>); 3] = [
         (&[B], Err(ModelFault::NoSuchMember)),
         (&[A, A], Err(ModelFault::ListedTwice)),
         (&[A], Ok(())),
     ];
-    for (list, wanted) in of_resident {
+    for (list, wanted) in resident_lists {
         assert!(rt; builder.resident_list(X, list) == wanted);
     }
     assert!(rt; builder.resident_list(Y, &[]) == Err(ModelFault::NoSuchMember));
@@ -57,7 +57,7 @@ fn has_pairs(builder: InstanceBuilder, pairs: u32) -> bool {
 }
 
 // A builder with two programmes, which have 2 places and 1 place, and with three residents.
-fn two_and_three(alloc: Global) -> Result<InstanceBuilder, ModelFault> {
+fn five_member_builder(alloc: Global) -> Result<InstanceBuilder, ModelFault> {
     let mut builder = InstanceBuilder::new(alloc);
     for quota in [2, 1] {
         builder.add_programme(quota)?;
@@ -71,7 +71,7 @@ fn two_and_three(alloc: Global) -> Result<InstanceBuilder, ModelFault> {
 // The instance of a programme and two residents who list each other and further members. It has only the mutual parts
 // of these lists.
 fn mutual_parts(alloc: Global) -> Result<Instance, ModelFault> {
-    let mut builder = two_and_three(alloc)?;
+    let mut builder = five_member_builder(alloc)?;
     builder.programme_list(A, &[Z, X, Y])?;
     builder.resident_list(X, &[B, A])?;
     builder.resident_list(Z, &[A])?;
@@ -94,15 +94,15 @@ fn are_ranked(
 #[test]
 fn keeps_the_mutual_parts(rt: HostRuntime) -> Result<(), Fail> {
     let instance = mutual_parts(rt.alloc())?;
-    let counts = [
+    let programmes_residents_pairs = [
         instance.programmes(),
         instance.residents(),
         instance.pairs(),
     ];
-    assert!(rt; counts == [2, 3, 2]);
-    assert!(rt; is_programme(&instance, A, 2, &[Z, X]));
-    assert!(rt; is_programme(&instance, B, 1, &[]));
-    assert!(rt; is_resident(&instance, X, &[A]));
+    assert!(rt; programmes_residents_pairs == [2, 3, 2]);
+    assert!(rt; has_quota_and_list(&instance, A, 2, &[Z, X]));
+    assert!(rt; has_quota_and_list(&instance, B, 1, &[]));
+    assert!(rt; has_list(&instance, X, &[A]));
     for (resident, ranks) in [
         (X, (Some(1), Some(0))),
         (Y, (None, None)),
@@ -126,7 +126,7 @@ fn offer(instance: &Instance, programme: ProgrammeNo, place: u32) -> Option<(u32
 
 #[test]
 fn tells_an_offer_with_its_rank(rt: HostRuntime) -> Result<(), Fail> {
-    let mut builder = two_and_three(rt.alloc())?;
+    let mut builder = five_member_builder(rt.alloc())?;
     builder.programme_list(A, &[Z, X])?;
     builder.programme_list(B, &[X])?;
     builder.resident_list(X, &[B, A])?;
@@ -148,10 +148,10 @@ fn tells_an_offer_with_its_rank(rt: HostRuntime) -> Result<(), Fail> {
 
 #[test]
 fn refuses_a_withdrawal_in_order(rt: HostRuntime) -> Result<(), Fail> {
-    let mut nobody = InstanceBuilder::new(rt.alloc());
-    assert!(rt; nobody.withdraw_resident(X) == Err(ModelFault::NoSuchMember));
-    assert!(rt; nobody.withdraw_programme(A) == Err(ModelFault::NoSuchMember));
-    let mut builder = one_of_each(rt.alloc())?;
+    let mut empty_builder = InstanceBuilder::new(rt.alloc());
+    assert!(rt; empty_builder.withdraw_resident(X) == Err(ModelFault::NoSuchMember));
+    assert!(rt; empty_builder.withdraw_programme(A) == Err(ModelFault::NoSuchMember));
+    let mut builder = two_member_builder(rt.alloc())?;
     for wanted in [Ok(()), Err(ModelFault::WithdrawnTwice)] {
         assert!(rt; builder.withdraw_programme(A) == wanted);
         assert!(rt; builder.withdraw_resident(X) == wanted);
@@ -163,7 +163,7 @@ fn refuses_a_withdrawal_in_order(rt: HostRuntime) -> Result<(), Fail> {
 
 #[test]
 fn reads_the_list_of_whoever_is_withdrawn(rt: HostRuntime) -> Result<(), Fail> {
-    let mut builder = one_of_each(rt.alloc())?;
+    let mut builder = two_member_builder(rt.alloc())?;
     builder.withdraw_programme(A)?;
     for (list, wanted) in [
         ([X, Y], Err(ModelFault::NoSuchMember)),
@@ -180,13 +180,13 @@ fn reads_the_list_of_whoever_is_withdrawn(rt: HostRuntime) -> Result<(), Fail> {
 
 // Two programmes and three residents with all their lists. These members are withdrawn before the lists are given if
 // `withdraws_first` is set, else afterwards.
-fn without(
+fn instance_without(
     alloc: Global,
     withdraws_first: bool,
     programmes: &[ProgrammeNo],
     residents: &[ResidentNo],
 ) -> Result<Instance, ModelFault> {
-    let mut builder = two_and_three(alloc)?;
+    let mut builder = five_member_builder(alloc)?;
     if !withdraws_first {
         add_lists(&mut builder)?;
     }
@@ -213,7 +213,12 @@ fn add_lists(builder: &mut InstanceBuilder) -> Result<(), ModelFault> {
 }
 
 // Whether exactly these of two programmes and three residents are withdrawn, and this many acceptable pairs remain.
-fn is_left(instance: &Instance, pairs: u32, programmes: [bool; 2], residents: [bool; 3]) -> bool {
+fn has_withdrawn(
+    instance: &Instance,
+    pairs: u32,
+    programmes_withdrawn: [bool; 2],
+    residents_withdrawn: [bool; 3],
+) -> bool {
     if instance.programmes() != 2 || instance.residents() != 3 {
         return false;
     }
@@ -226,33 +231,33 @@ fn is_left(instance: &Instance, pairs: u32, programmes: [bool; 2], residents: [b
         && [
             instance.programme_withdrawn(A),
             instance.programme_withdrawn(B),
-        ] == programmes
-        && withdrawn_residents == residents
+        ] == programmes_withdrawn
+        && withdrawn_residents == residents_withdrawn
 }
 
 #[test]
 fn a_withdrawn_member_stands_on_no_list(rt: HostRuntime) -> Result<(), Fail> {
     for withdraws_first in [false, true] {
-        let programme = without(rt.alloc(), withdraws_first, &[B], &[])?;
-        assert!(rt; is_left(&programme, 3, [false, true], [false; 3]));
-        assert!(rt; is_programme(&programme, B, 1, &[]));
-        assert!(rt; is_resident(&programme, X, &[A]));
-        let resident = without(rt.alloc(), withdraws_first, &[], &[X])?;
-        assert!(rt; is_left(&resident, 2, [false; 2], [true, false, false]));
-        assert!(rt; is_programme(&resident, A, 2, &[Y, Z]));
-        assert!(rt; is_programme(&resident, B, 1, &[]));
-        assert!(rt; is_resident(&resident, X, &[]));
-        assert!(rt; are_ranked(&resident, A, Z, (Some(1), Some(0))));
-        assert!(rt; are_ranked(&resident, A, X, (None, None)));
+        let without_programme = instance_without(rt.alloc(), withdraws_first, &[B], &[])?;
+        assert!(rt; has_withdrawn(&without_programme, 3, [false, true], [false; 3]));
+        assert!(rt; has_quota_and_list(&without_programme, B, 1, &[]));
+        assert!(rt; has_list(&without_programme, X, &[A]));
+        let without_resident = instance_without(rt.alloc(), withdraws_first, &[], &[X])?;
+        assert!(rt; has_withdrawn(&without_resident, 2, [false; 2], [true, false, false]));
+        assert!(rt; has_quota_and_list(&without_resident, A, 2, &[Y, Z]));
+        assert!(rt; has_quota_and_list(&without_resident, B, 1, &[]));
+        assert!(rt; has_list(&without_resident, X, &[]));
+        assert!(rt; are_ranked(&without_resident, A, Z, (Some(1), Some(0))));
+        assert!(rt; are_ranked(&without_resident, A, X, (None, None)));
     }
-    let nobody = without(rt.alloc(), false, &[A, B], &[Z, X, Y])?;
-    assert!(rt; is_left(&nobody, 0, [true; 2], [true; 3]));
+    let without_all = instance_without(rt.alloc(), false, &[A, B], &[Z, X, Y])?;
+    assert!(rt; has_withdrawn(&without_all, 0, [true; 2], [true; 3]));
     Ok(())
 }
 
 #[test]
 fn whom_nobody_lists_may_withdraw(rt: HostRuntime) -> Result<(), Fail> {
-    let mut builder = two_and_three(rt.alloc())?;
+    let mut builder = five_member_builder(rt.alloc())?;
     builder.programme_list(A, &[X])?;
     builder.resident_list(X, &[A])?;
     builder.withdraw_resident(Y)?;
@@ -266,8 +271,8 @@ fn takes_as_many_pairs_as_there_may_be(rt: HostRuntime) -> Result<(), Fail> {
     let instance = made_in_one_order(rt.alloc())?;
     let residents = all_residents(rt.alloc())?;
     assert!(rt; instance.pairs() == 200_000);
-    assert!(rt; is_programme(&instance, ProgrammeNo(9), 2_000, residents.as_slice()));
-    assert!(rt; is_resident(&instance, ResidentNo(19_999), &TEN));
+    assert!(rt; has_quota_and_list(&instance, ProgrammeNo(9), 2_000, residents.as_slice()));
+    assert!(rt; has_list(&instance, ResidentNo(19_999), &TEN_PROGRAMMES));
     assert!(rt;
         are_ranked(
             &instance,
@@ -280,7 +285,10 @@ fn takes_as_many_pairs_as_there_may_be(rt: HostRuntime) -> Result<(), Fail> {
 }
 
 // Adds a resident, and as many programmes as there may be. Each of these programmes ranks this resident.
-fn add_most(alloc: Global, builder: &mut InstanceBuilder) -> Result<Vec<ProgrammeNo>, ModelFault> {
+fn add_most_programmes(
+    alloc: Global,
+    builder: &mut InstanceBuilder,
+) -> Result<Vec<ProgrammeNo>, ModelFault> {
     builder.add_resident()?;
     let mut programmes = Vec::new(alloc);
     for _ in 0..2_000 {
@@ -296,7 +304,7 @@ fn add_most(alloc: Global, builder: &mut InstanceBuilder) -> Result<Vec<Programm
 #[test]
 fn a_resident_ranks_as_many_as_there_may_be(rt: HostRuntime) -> Result<(), Fail> {
     let mut builder = InstanceBuilder::new(rt.alloc());
-    let programmes = add_most(rt.alloc(), &mut builder)?;
+    let programmes = add_most_programmes(rt.alloc(), &mut builder)?;
     assert!(rt; builder.resident_list(X, programmes.as_slice()) == Ok(()));
     assert!(rt; has_pairs(builder, 2_000));
     Ok(())

@@ -9,7 +9,7 @@ use test_support::instances::{Members, TWO_PLACES};
 
 // The journal of a run by one worker over `TWO_PLACES`, through full mailboxes. The worker visits residents before
 // programmes, and on each side the desk that was woken last. Programmes that were woken only for a hold come last.
-fn journal_by_one() -> [Event; 19] {
+fn journal_by_one_worker() -> [Event; 19] {
     [
         offer(A, X),
         offer(A, Y),
@@ -34,15 +34,15 @@ fn journal_by_one() -> [Event; 19] {
 }
 
 // Whether this is the journal of a run by one worker over `TWO_PLACES`.
-pub(crate) fn is_by_one(journal: &[Event]) -> bool {
-    journal == &journal_by_one()[..]
+pub(crate) fn is_by_one_worker(journal: &[Event]) -> bool {
+    journal == &journal_by_one_worker()[..]
 }
 
 #[test]
 fn one_worker_is_repeated_to_the_event(rt: HostRuntime) -> Result<(), Fail> {
     for _ in 0..10 {
         let outcome = ran(rt, rt.alloc(), TWO_PLACES, Capacity::Full, 1, &OpenGate)?;
-        assert!(rt; is_by_one(outcome.journal.as_slice()));
+        assert!(rt; is_by_one_worker(outcome.journal.as_slice()));
     }
     Ok(())
 }
@@ -53,7 +53,7 @@ const TWO_PAIRS: Members = (&[(1, &[0]), (1, &[1])], &[&[0], &[1]]);
 #[test]
 fn what_a_visit_woke_comes_before_any_programme(rt: HostRuntime) -> Result<(), Fail> {
     let outcome = ran(rt, rt.alloc(), TWO_PAIRS, Capacity::Full, 1, &OpenGate)?;
-    let wanted = [
+    let wanted_events = [
         offer(A, X),
         take(X, A),
         answer(X, A, HOLD),
@@ -61,8 +61,8 @@ fn what_a_visit_woke_comes_before_any_programme(rt: HostRuntime) -> Result<(), F
         take(Y, B),
         answer(Y, B, HOLD),
     ];
-    for (event, other) in outcome.journal.iter().zip(&wanted) {
-        assert!(rt; event == other, "{event:?} for {other:?}");
+    for (event, wanted_event) in outcome.journal.iter().zip(&wanted_events) {
+        assert!(rt; event == wanted_event, "{event:?} for {wanted_event:?}");
     }
     assert!(rt; outcome.journal.len() == 9);
     Ok(())
@@ -125,24 +125,24 @@ const CALLED: [(Members, Event, Event); 3] = [
 ];
 
 // Whether one event stands right before another event in the journal.
-fn is_followed(journal: &[Event], first: &Event, next: &Event) -> bool {
+fn is_followed(journal: &[Event], event_before: &Event, event_after: &Event) -> bool {
     let mut is_after = false;
     for event in journal {
-        if is_after && event == next {
+        if is_after && event == event_after {
             return true;
         }
-        is_after = event == first;
+        is_after = event == event_before;
     }
     false
 }
 
 #[test]
 fn a_called_programme_offers_first_and_hears_then(rt: HostRuntime) -> Result<(), Fail> {
-    for (members, offered, heard) in CALLED {
+    for (members, offer_event, hear_event) in CALLED {
         let outcome = ran(rt, rt.alloc(), members, Capacity::Each(1), 1, &OpenGate)?;
         assert!(rt;
-            is_followed(&outcome.journal, &offered, &heard),
-            "{offered:?}, {heard:?}"
+            is_followed(&outcome.journal, &offer_event, &hear_event),
+            "{offer_event:?}, {hear_event:?}"
         );
     }
     Ok(())
@@ -203,11 +203,11 @@ const REFUSED_AGAIN: [(Members, Event, Event); 2] = [
 
 #[test]
 fn a_called_programme_that_is_refused_hears(rt: HostRuntime) -> Result<(), Fail> {
-    for (members, before, heard) in REFUSED_AGAIN {
+    for (members, event_before, hear_event) in REFUSED_AGAIN {
         let outcome = ran(rt, rt.alloc(), members, Capacity::Each(1), 1, &OpenGate)?;
         assert!(rt;
-            is_followed(&outcome.journal, &before, &heard),
-            "{before:?}, {heard:?}"
+            is_followed(&outcome.journal, &event_before, &hear_event),
+            "{event_before:?}, {hear_event:?}"
         );
     }
     Ok(())

@@ -9,43 +9,43 @@ use std::sync::Wait;
 use std::thread::Threads;
 use test_gates::gates::{AfterAnother, Counting};
 use test_support::events::{A, B, DECLINE, HOLD, RELEASE, X, Y, Z, hear, take};
-use test_support::instances::{Members, TWO_BY_TWO, TWO_PLACES, has_places, made};
+use test_support::instances::{Members, TWO_BY_TWO, TWO_PLACES, has_places, instance_of};
 
 // The outcome of a run with this number of workers in which one mailbox gives a wrong answer: the run's fault, or
 // whether the run closed with each resident at the expected programme.
-fn told_by<G: Gate + Sync, R: Threads + Wait + Sync + Send + Copy>(
+fn slipping_outcome<G: Gate + Sync, R: Threads + Wait + Sync + Send + Copy>(
     rt: R,
     alloc: Global,
-    case: (Members, &[Option<u32>]),
-    form: (Capacity, usize),
+    members_and_places: (Members, &[Option<u32>]),
+    run_setup: (Capacity, usize),
     gate: &G,
     slip: Slip,
 ) -> Result<bool, RunFault> {
-    let (members, places) = case;
-    let (cap, workers) = form;
-    let Ok(inst) = made(alloc, members) else {
+    let (members, places) = members_and_places;
+    let (cap, workers) = run_setup;
+    let Ok(inst) = instance_of(alloc, members) else {
         return Err(RunFault::Memory);
     };
     let mailboxes = Slipping {
         rt,
         slips: [slip, slip],
     };
-    let done = run_over(rt, alloc, &mailboxes, &inst, cap, workers, gate)?;
-    Ok(done.ending == Ending::Closed && has_places(&done.assignment, places))
+    let finished_run = run_over(rt, alloc, &mailboxes, &inst, cap, workers, gate)?;
+    Ok(finished_run.ending == Ending::Closed && has_places(&finished_run.assignment, places))
 }
 
 const CAPACITIES: [Capacity; 3] = [Capacity::Full, Capacity::Each(1), Capacity::Each(2)];
 
-const SMALL: (Members, &[Option<u32>]) = (TWO_BY_TWO, &[Some(0), Some(1)]);
+const SMALL_MARKET: (Members, &[Option<u32>]) = (TWO_BY_TWO, &[Some(0), Some(1)]);
 
-const LARGER: (Members, &[Option<u32>]) = (TWO_PLACES, &[Some(1), Some(0), Some(0)]);
+const LARGER_MARKET: (Members, &[Option<u32>]) = (TWO_PLACES, &[Some(1), Some(0), Some(0)]);
 
 // A number that no programme has.
-const STRANGE: ProgrammeNo = ProgrammeNo(7);
+const STRANGE_PROGRAMME: ProgrammeNo = ProgrammeNo(7);
 
 // Slips after which a run goes on. A message that was refused as if the mailbox were full is put again, and a message
 // that was missing is looked for again.
-const PASSING: [Slip; 8] = [
+const PASSING_SLIPS: [Slip; 8] = [
     Slip::Offer(X, 0, PutSlip::Full),
     Slip::Offer(X, 1, PutSlip::Full),
     Slip::Answer(A, 0, PutSlip::Full),
@@ -58,11 +58,18 @@ const PASSING: [Slip; 8] = [
 
 #[test]
 fn goes_on_after_full_and_nothing(rt: HostRuntime) {
-    for slip in PASSING {
+    for slip in PASSING_SLIPS {
         for cap in CAPACITIES {
             for workers in 1..=4 {
                 assert!(rt;
-                    told_by(rt, rt.alloc(), LARGER, (cap, workers), &OpenGate, slip) == Ok(true),
+                    slipping_outcome(
+                        rt,
+                        rt.alloc(),
+                        LARGER_MARKET,
+                        (cap, workers),
+                        &OpenGate,
+                        slip
+                    ) == Ok(true),
                     "{slip:?}, {cap:?}, {workers} workers"
                 );
             }
@@ -71,7 +78,7 @@ fn goes_on_after_full_and_nothing(rt: HostRuntime) {
 }
 
 // Slips in which a mailbox loses its other end, each with the desk of this mailbox.
-fn losing() -> [(Slip, Desk); 8] {
+fn losing_slips() -> [(Slip, Desk); 8] {
     [
         (Slip::Offer(X, 0, PutSlip::Gone), Desk::Resident(X)),
         (Slip::Offer(Z, 0, PutSlip::Gone), Desk::Resident(Z)),
@@ -85,22 +92,29 @@ fn losing() -> [(Slip, Desk); 8] {
 }
 
 // Whether a run has the fault that the other end of this desk's mailbox is gone.
-fn is_gone(outcome: &Result<bool, RunFault>, desk: &Desk) -> bool {
+fn is_mail_gone(outcome: &Result<bool, RunFault>, desk: &Desk) -> bool {
     match outcome {
-        Err(RunFault::MailGone(gone)) => gone == desk,
+        Err(RunFault::MailGone(gone_desk)) => gone_desk == desk,
         _ => false,
     }
 }
 
 #[test]
 fn tells_whose_mailbox_is_gone(rt: HostRuntime) {
-    for (slip, desk) in losing() {
+    for (slip, desk) in losing_slips() {
         for cap in CAPACITIES {
             for workers in 1..=4 {
                 let gate = Counting::new();
-                let outcome = told_by(rt, rt.alloc(), LARGER, (cap, workers), &gate, slip);
+                let outcome = slipping_outcome(
+                    rt,
+                    rt.alloc(),
+                    LARGER_MARKET,
+                    (cap, workers),
+                    &gate,
+                    slip,
+                );
                 assert!(rt;
-                    is_gone(&outcome, &desk),
+                    is_mail_gone(&outcome, &desk),
                     "{slip:?}, {cap:?}, {workers} workers"
                 );
             }
@@ -110,7 +124,7 @@ fn tells_whose_mailbox_is_gone(rt: HostRuntime) {
 
 // Slips that last until the end of the run, each with the desk that stays pending. In some, an offer or an answer
 // finds no room. In others, a desk finds no message in its mailbox, though a message waits.
-fn lasting() -> [(Slip, Desk); 8] {
+fn lasting_slips() -> [(Slip, Desk); 8] {
     [
         (Slip::Offer(Y, 0, PutSlip::AlwaysFull), Desk::Programme(A)),
         (Slip::Offer(Z, 0, PutSlip::AlwaysFull), Desk::Programme(A)),
@@ -132,18 +146,25 @@ fn lasting() -> [(Slip, Desk); 8] {
 // Whether a run has the fault that this desk is torn.
 fn is_torn(outcome: &Result<bool, RunFault>, desk: &Desk) -> bool {
     match outcome {
-        Err(RunFault::Torn(torn)) => torn == desk,
+        Err(RunFault::Torn(torn_desk)) => torn_desk == desk,
         _ => false,
     }
 }
 
 #[test]
 fn tells_the_desk_that_is_left_pending(rt: HostRuntime) {
-    for (slip, desk) in lasting() {
+    for (slip, desk) in lasting_slips() {
         for cap in CAPACITIES {
             for workers in 1..=4 {
                 let gate = Counting::new();
-                let outcome = told_by(rt, rt.alloc(), LARGER, (cap, workers), &gate, slip);
+                let outcome = slipping_outcome(
+                    rt,
+                    rt.alloc(),
+                    LARGER_MARKET,
+                    (cap, workers),
+                    &gate,
+                    slip,
+                );
                 assert!(rt;
                     is_torn(&outcome, &desk),
                     "{slip:?}, {cap:?}, {workers} workers"
@@ -155,38 +176,41 @@ fn tells_the_desk_that_is_left_pending(rt: HostRuntime) {
 
 // A slip in which the resident's first take gives an offer of this programme, and the take that the worker then
 // tries to enter.
-fn offer_of(resident: ResidentNo, programme: ProgrammeNo) -> (Slip, Event) {
-    let slip = TakeSlip::Gives(OfferNote { programme });
-    (Slip::Take(resident, 0, slip), take(resident, programme))
+fn offer_slip(resident: ResidentNo, programme: ProgrammeNo) -> (Slip, Event) {
+    let take_slip = TakeSlip::Gives(OfferNote { programme });
+    (
+        Slip::Take(resident, 0, take_slip),
+        take(resident, programme),
+    )
 }
 
 // A slip in which the programme's look with this number gives this answer, and the hear that the worker then tries
 // to enter.
-fn answer_of(
+fn answer_slip(
     programme: ProgrammeNo,
     call: u32,
     resident: ResidentNo,
     kind: AnswerKind,
 ) -> (Slip, Event) {
-    let slip = TakeSlip::Gives(AnswerNote { resident, kind });
+    let take_slip = TakeSlip::Gives(AnswerNote { resident, kind });
     (
-        Slip::Hear(programme, call, slip),
+        Slip::Hear(programme, call, take_slip),
         hear(programme, resident, kind),
     )
 }
 
 // Slips that give a message that was never put, or a message before an older one, each with the receipt that is then
 // out of step.
-fn out_of_step() -> [(Slip, Event); 8] {
+fn out_of_step_slips() -> [(Slip, Event); 8] {
     [
-        offer_of(X, STRANGE),
-        offer_of(Z, B),
-        offer_of(Y, B),
-        answer_of(A, 0, Y, DECLINE),
-        answer_of(A, 1, Z, DECLINE),
-        answer_of(A, 2, X, DECLINE),
-        answer_of(B, 0, X, RELEASE),
-        answer_of(B, 0, Y, HOLD),
+        offer_slip(X, STRANGE_PROGRAMME),
+        offer_slip(Z, B),
+        offer_slip(Y, B),
+        answer_slip(A, 0, Y, DECLINE),
+        answer_slip(A, 1, Z, DECLINE),
+        answer_slip(A, 2, X, DECLINE),
+        answer_slip(B, 0, X, RELEASE),
+        answer_slip(B, 0, Y, HOLD),
     ]
 }
 
@@ -205,11 +229,18 @@ fn is_out_of_step(outcome: &Result<bool, RunFault>, gate: &Counting, receipt: &E
 
 #[test]
 fn tells_the_receipt_that_is_out_of_step(rt: HostRuntime) {
-    for (slip, receipt) in out_of_step() {
+    for (slip, receipt) in out_of_step_slips() {
         for cap in CAPACITIES {
             for workers in 1..=4 {
                 let gate = Counting::new();
-                let outcome = told_by(rt, rt.alloc(), LARGER, (cap, workers), &gate, slip);
+                let outcome = slipping_outcome(
+                    rt,
+                    rt.alloc(),
+                    LARGER_MARKET,
+                    (cap, workers),
+                    &gate,
+                    slip,
+                );
                 assert!(rt;
                     is_out_of_step(&outcome, &gate, &receipt),
                     "{slip:?}, {cap:?}, {workers} workers"
@@ -239,7 +270,14 @@ fn takes_no_message_twice(rt: HostRuntime) {
         for cap in CAPACITIES {
             for workers in 1..=4 {
                 let gate = Counting::new();
-                let outcome = told_by(rt, rt.alloc(), LARGER, (cap, workers), &gate, slip);
+                let outcome = slipping_outcome(
+                    rt,
+                    rt.alloc(),
+                    LARGER_MARKET,
+                    (cap, workers),
+                    &gate,
+                    slip,
+                );
                 assert!(rt;
                     is_repeated(&outcome, &gate),
                     "{slip:?}, {cap:?}, {workers} workers"
@@ -257,8 +295,8 @@ const TRIES: u32 = 5;
 fn is_spoiled<R: Threads + Wait + Sync + Send + Copy>(rt: R, alloc: Global) -> bool {
     for _ in 0..TRIES {
         let gate = AfterAnother::new(Desk::Resident(X));
-        let (slip, receipt) = offer_of(X, STRANGE);
-        let outcome = told_by(rt, alloc, SMALL, (Capacity::Full, 2), &gate, slip);
+        let (slip, receipt) = offer_slip(X, STRANGE_PROGRAMME);
+        let outcome = slipping_outcome(rt, alloc, SMALL_MARKET, (Capacity::Full, 2), &gate, slip);
         if let Err(RunFault::OutOfStep { journal, event }) = outcome
             && event == receipt
             && gate.has_held()

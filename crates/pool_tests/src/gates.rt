@@ -10,7 +10,7 @@ use std::test::Fail;
 use std::thread::Threads;
 use test_gates::gates::{Hold, HoldsEntered, HoldsVisit, Rested, Stalls, StopsBy, StopsFrom};
 use test_support::events::desk_of;
-use test_support::instances::{Members, TWO_BY_TWO, TWO_PLACES, made};
+use test_support::instances::{Members, TWO_BY_TWO, TWO_PLACES, instance_of};
 use test_support::markets::{made_chain, made_pairs};
 
 const CAPACITIES: [Capacity; 3] = [Capacity::Full, Capacity::Each(1), Capacity::Each(2)];
@@ -19,10 +19,10 @@ const CAPACITIES: [Capacity; 3] = [Capacity::Full, Capacity::Each(1), Capacity::
 const TRIES: u32 = 10;
 
 // Four instances: two small ones, a hundred pairs, and a chain of forty links.
-fn made_all(alloc: Global) -> Result<[Instance; 4], ModelFault> {
+fn made_instances(alloc: Global) -> Result<[Instance; 4], ModelFault> {
     Ok([
-        made(alloc, TWO_BY_TWO)?,
-        made(alloc, TWO_PLACES)?,
+        instance_of(alloc, TWO_BY_TWO)?,
+        instance_of(alloc, TWO_PLACES)?,
         made_pairs(alloc, 100)?,
         made_chain(alloc, 40)?,
     ])
@@ -30,42 +30,43 @@ fn made_all(alloc: Global) -> Result<[Instance; 4], ModelFault> {
 
 // How many takes and hears a run has.
 fn receipts_of(journal: &[Event]) -> u64 {
-    let mut count = 0_u64;
+    let mut receipt_count = 0_u64;
     for event in journal {
         if let Event::Take { .. } | Event::Hear { .. } = event {
-            count = count.saturating_add(1);
+            receipt_count = receipt_count.saturating_add(1);
         }
     }
-    count
+    receipt_count
 }
 
 // Whether each worker entered as many events as the gate counted, and the journal has all of them and no others.
-fn is_told(outcome: &Outcome, counts: &[u64]) -> bool {
-    let mut sum = 0_u64;
-    for (entered, count) in outcome.entered.iter().zip(counts) {
-        if entered != count {
+fn agrees_with_counts(outcome: &Outcome, gate_counts: &[u64]) -> bool {
+    let mut entered_sum = 0_u64;
+    for (entered, gate_count) in outcome.entered.iter().zip(gate_counts) {
+        if entered != gate_count {
             return false;
         }
-        sum = sum.saturating_add(*count);
+        entered_sum = entered_sum.saturating_add(*gate_count);
     }
-    outcome.journal.len() as u64 == sum && outcome.who.len() == outcome.journal.len()
+    outcome.journal.len() as u64 == entered_sum && outcome.who.len() == outcome.journal.len()
 }
 
 // Whether a run ended as it should whose gate stops it from the call of `pass` with this number on.
 fn is_stopped_from(outcome: &Outcome, gate: &StopsFrom, first_pass: u64, workers: usize) -> bool {
-    let counts = [0, 1, 2, 3, 4, 5, 6, 7].map(|worker| gate.count(worker));
+    let gate_counts = [0, 1, 2, 3, 4, 5, 6, 7].map(|worker| gate.count(worker));
     let receipts = receipts_of(&outcome.journal);
     let is_closed = outcome.journal.last() == Some(&Event::Close);
-    let ends = match outcome.ending {
+    let ends_well = match outcome.ending {
         Ending::Closed => is_closed,
         Ending::Stopped => !is_closed && receipts >= first_pass,
     };
     // several workers can close a run while one worker is stopped at the run's last receipt
-    ends && (workers > 1
-        || is_closed && receipts < first_pass
-        || !is_closed && receipts == first_pass)
+    ends_well
+        && (workers > 1
+            || is_closed && receipts < first_pass
+            || !is_closed && receipts == first_pass)
         && gate.all_ended()
-        && is_told(outcome, &counts)
+        && agrees_with_counts(outcome, &gate_counts)
 }
 
 // How a run ended whose gate stops it from the call of `pass` with this number on; none if it did not end as it
@@ -74,10 +75,10 @@ fn stopped_from<R: Threads + Wait + Sync + Send + Copy>(
     rt: R,
     alloc: Global,
     inst: &Instance,
-    form: (Capacity, usize),
+    run_setup: (Capacity, usize),
     first_pass: u64,
 ) -> Option<Ending> {
-    let (cap, workers) = form;
+    let (cap, workers) = run_setup;
     let gate = StopsFrom::new(first_pass);
     let Ok(outcome) = ran_on(rt, alloc, inst, cap, workers, &gate) else {
         return None;
@@ -96,15 +97,15 @@ fn stop_well<R: Threads + Wait + Sync + Send + Copy>(
     alloc: Global,
     workers: usize,
 ) -> Result<bool, ModelFault> {
-    let inst = made(alloc, TWO_PLACES)?;
+    let inst = instance_of(alloc, TWO_PLACES)?;
     for first_pass in 1..=10 {
         for cap in CAPACITIES {
-            let is_well = match stopped_from(rt, alloc, &inst, (cap, workers), first_pass) {
+            let ends_well = match stopped_from(rt, alloc, &inst, (cap, workers), first_pass) {
                 Some(Ending::Closed) => first_pass > 1,
                 Some(Ending::Stopped) => first_pass < 10,
                 None => false,
             };
-            if !is_well {
+            if !ends_well {
                 return Ok(false);
             }
         }
@@ -128,7 +129,7 @@ fn stops_from_each_pass_on(rt: HostRuntime) -> Result<(), Fail> {
 
 #[test]
 fn every_worker_heeds_a_stop(rt: HostRuntime) -> Result<(), Fail> {
-    let [_, _, pairs, chain] = made_all(rt.alloc())?;
+    let [_, _, pairs, chain] = made_instances(rt.alloc())?;
     for inst in [&pairs, &chain] {
         for first_pass in [1, 30] {
             for cap in CAPACITIES {
@@ -184,15 +185,15 @@ fn a_stop_wakes_who_rests(rt: HostRuntime) -> Result<(), Fail> {
     Ok(())
 }
 
-// The index in the journal of the event that a worker entered after it had entered `earlier` events.
-fn place_of(outcome: &Outcome, worker: usize, earlier: u64) -> Option<usize> {
-    let mut entered = 0_u64;
-    for (place, of) in outcome.who.iter().enumerate() {
-        if usize::from(*of) == worker {
-            if entered == earlier {
-                return Some(place);
+// The index in the journal of the event that a worker entered after it had entered `earlier_entries` events.
+fn journal_index(outcome: &Outcome, worker: usize, earlier_entries: u64) -> Option<usize> {
+    let mut entered_count = 0_u64;
+    for (index, by_worker) in outcome.who.iter().enumerate() {
+        if usize::from(*by_worker) == worker {
+            if entered_count == earlier_entries {
+                return Some(index);
             }
-            entered = entered.saturating_add(1);
+            entered_count = entered_count.saturating_add(1);
         }
     }
     None
@@ -201,17 +202,18 @@ fn place_of(outcome: &Outcome, worker: usize, earlier: u64) -> Option<usize> {
 // Whether a receipt that was kept waiting was entered after all events that were entered meanwhile, none of which
 // belongs to its desk.
 fn is_entered_after(outcome: &Outcome, hold: &Hold, workers: usize) -> bool {
-    let Some(place) = place_of(outcome, hold.worker, hold.own) else {
+    let Some(held_index) = journal_index(outcome, hold.worker, hold.own) else {
         return false;
     };
-    for (at, event) in outcome.journal.iter().enumerate() {
-        let is_meanwhile = at >= (hold.from as usize).saturating_add(workers) && at < place;
+    for (index, event) in outcome.journal.iter().enumerate() {
+        let is_meanwhile = index >= (hold.from as usize).saturating_add(workers)
+            && index < held_index;
         if is_meanwhile && (desk_of(event) == Some(hold.desk) || *event == Event::Close) {
             return false;
         }
     }
-    place as u64 >= hold.to
-        && outcome.journal.get(place).is_some_and(|event| {
+    held_index as u64 >= hold.to
+        && outcome.journal.get(held_index).is_some_and(|event| {
             desk_of(event) == Some(hold.desk) && receipts_of(&[*event]) == 1
         })
 }
@@ -230,32 +232,32 @@ fn is_held<R: Threads + Wait + Sync + Send + Copy>(
     rt: R,
     alloc: Global,
     inst: &Instance,
-    form: (Capacity, usize),
-    place: u64,
+    run_setup: (Capacity, usize),
+    held_call: u64,
 ) -> bool {
-    let (cap, workers) = form;
-    let gate = Stalls::new(rt, place);
+    let (cap, workers) = run_setup;
+    let gate = Stalls::new(rt, held_call);
     let Ok(outcome) = ran_on(rt, alloc, inst, cap, workers, &gate) else {
         return false;
     };
-    let counts = [0, 1, 2, 3, 4, 5, 6, 7].map(|worker| gate.count(worker));
+    let gate_counts = [0, 1, 2, 3, 4, 5, 6, 7].map(|worker| gate.count(worker));
     outcome.ending == Ending::Closed
-        && is_told(&outcome, &counts)
+        && agrees_with_counts(&outcome, &gate_counts)
         && is_late_enough(&outcome, &gate, workers)
 }
 
 #[test]
 fn a_receipt_passes_before_it_is_entered(rt: HostRuntime) -> Result<(), Fail> {
-    let all = made_all(rt.alloc())?;
+    let instances = made_instances(rt.alloc())?;
     // the last of these numbers is the call for the run's last receipt
-    let places: [[u64; 2]; 4] = [[0, 3], [2, 7], [50, 199], [1, 60]];
-    for (inst, places) in all.iter().zip(places) {
+    let calls_of_instances: [[u64; 2]; 4] = [[0, 3], [2, 7], [50, 199], [1, 60]];
+    for (inst, held_calls) in instances.iter().zip(calls_of_instances) {
         for cap in [Capacity::Full, Capacity::Each(1)] {
             for workers in [1, 2, 4] {
-                for place in places {
+                for held_call in held_calls {
                     assert!(rt;
-                        is_held(rt, rt.alloc(), inst, (cap, workers), place),
-                        "at {place}, {cap:?}, {workers} workers"
+                        is_held(rt, rt.alloc(), inst, (cap, workers), held_call),
+                        "at {held_call}, {cap:?}, {workers} workers"
                     );
                 }
             }
@@ -269,22 +271,24 @@ fn goes_on<R: Threads + Wait + Sync + Send + Copy>(
     rt: R,
     alloc: Global,
     inst: &Instance,
-    form: (Capacity, usize),
-    number: u64,
+    run_setup: (Capacity, usize),
+    event_number: u64,
 ) -> bool {
-    let (cap, workers) = form;
-    let gate = HoldsEntered::new(number);
+    let (cap, workers) = run_setup;
+    let gate = HoldsEntered::new(event_number);
     let Ok(outcome) = ran_on(rt, alloc, inst, cap, workers, &gate) else {
         return false;
     };
-    let counts = [0, 1, 2, 3, 4, 5, 6, 7].map(|worker| gate.count(worker));
-    gate.has_held() && outcome.ending == Ending::Closed && is_told(&outcome, &counts)
+    let gate_counts = [0, 1, 2, 3, 4, 5, 6, 7].map(|worker| gate.count(worker));
+    gate.has_held()
+        && outcome.ending == Ending::Closed
+        && agrees_with_counts(&outcome, &gate_counts)
 }
 
 #[test]
 fn an_entry_is_told_with_the_ledger_free(rt: HostRuntime) -> Result<(), Fail> {
-    let all = made_all(rt.alloc())?;
-    for inst in &all {
+    let instances = made_instances(rt.alloc())?;
+    for inst in &instances {
         for cap in CAPACITIES {
             for workers in [2, 4, 8] {
                 assert!(rt;

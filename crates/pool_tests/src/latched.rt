@@ -40,9 +40,9 @@ impl<R: Wait + Copy> Latch<R> {
     }
 
     /// Sleeps for this number of milliseconds.
-    pub(crate) fn sleep(&self, millis: u64) {
+    pub(crate) fn sleep(&self, milliseconds: u64) {
         self.clock
-            .park_timeout(&self.rt, 0, Duration::from_millis(millis));
+            .park_timeout(&self.rt, 0, Duration::from_millis(milliseconds));
     }
 
     // Waits until the flag is set, or until a long time has passed.
@@ -125,7 +125,7 @@ impl<'a, M: Copy, R: Wait + Copy> PutEnd<M> for LatchedPut<'a, M, R> {
 pub(crate) struct LatchedTake<'a, M: Copy, R: Wait + Copy> {
     end: RuledTake<M, R>,
     latch: &'a Latch<R>,
-    is_lost: bool,
+    has_lost_sender: bool,
 }
 
 impl<'a, M: Copy, R: Wait + Copy> Model for LatchedTake<'a, M, R> {
@@ -144,7 +144,7 @@ impl<'a, M: Copy, R: Wait + Copy> TakeEnd<M> for LatchedTake<'a, M, R> {
     ghost may_go = { λ _. Unit {0} };
 
     fn take(&mut self) -> TakeReply<M> {
-        if self.is_lost {
+        if self.has_lost_sender {
             self.latch.holds_take();
             return TakeReply::Gone;
         }
@@ -157,7 +157,7 @@ impl<'a, M: Copy, R: Wait + Copy> TakeEnd<M> for LatchedTake<'a, M, R> {
 pub(crate) struct Latched<'a, R: Wait + Copy> {
     pub(crate) rt: R,
     pub(crate) latch: &'a Latch<R>,
-    pub(crate) lost: Option<ResidentNo>,
+    pub(crate) lost_end_of: Option<ResidentNo>,
 }
 
 // The two ends of a mailbox under this latch.
@@ -166,7 +166,7 @@ fn ends_of<'a, M: Copy + Eq, R: Wait + Copy>(
     alloc: Global,
     room: u32,
     latch: &'a Latch<R>,
-    is_lost: bool,
+    has_lost_sender: bool,
 ) -> Result<(LatchedPut<'a, M, R>, LatchedTake<'a, M, R>), MailFault>
     requires { room ≢ 0 }
     ensures made { IfOk result (λ ends. (ends.0.room ≡ room)
@@ -178,7 +178,7 @@ fn ends_of<'a, M: Copy + Eq, R: Wait + Copy>(
     let take = LatchedTake {
         end: take,
         latch,
-        is_lost,
+        has_lost_sender,
     };
     Ok((put, take))
 }
@@ -204,8 +204,8 @@ impl<'a, R: Wait + Copy + Send + Sync> Mailboxes for Latched<'a, R> {
         resident: ResidentNo,
         room: u32,
     ) -> Result<(LatchedPut<'a, OfferNote, R>, LatchedTake<'a, OfferNote, R>), MailFault> {
-        let is_lost = self.lost == Some(resident);
-        ends_of(self.rt, alloc, room, self.latch, is_lost)
+        let has_lost_sender = self.lost_end_of == Some(resident);
+        ends_of(self.rt, alloc, room, self.latch, has_lost_sender)
     }
 
     fn open_answers(

@@ -2,7 +2,7 @@
 //! forgotten, and which fault is reported. One test looks at what a search finds when no desk is listed.
 ghost use Rattle.std.specs.Prelude.{true, false};
 
-use crate::alone::is_by_one;
+use crate::alone::is_by_one_worker;
 use crate::runs::ran;
 use crate::slips::{PutSlip, Slip, Slipping, TakeSlip};
 use exchange_core::{Capacity, Desk, Event, OfferNote};
@@ -15,7 +15,7 @@ use std::test::Fail;
 use std::thread::Threads;
 use std::time::Duration;
 use test_support::events::{A, B, X, Y};
-use test_support::instances::{Members, TWO_PLACES, made};
+use test_support::instances::{Members, TWO_PLACES, instance_of};
 
 // The journal of a run by one worker in which one mailbox gives an answer that a good mailbox never gives.
 fn journal_over<R: Threads + Wait + Sync + Send + Copy>(
@@ -24,19 +24,19 @@ fn journal_over<R: Threads + Wait + Sync + Send + Copy>(
     members: Members,
     slip: Slip,
 ) -> Result<Vec<Event>, RunFault> {
-    let Ok(inst) = made(alloc, members) else {
+    let Ok(inst) = instance_of(alloc, members) else {
         return Err(RunFault::Memory);
     };
     let mailboxes = Slipping {
         rt,
         slips: [slip, slip],
     };
-    let done = run_over(rt, alloc, &mailboxes, &inst, Capacity::Full, 1, &OpenGate)?;
-    Ok(Vec::from_slice(alloc, done.journal.as_slice())?)
+    let finished_run = run_over(rt, alloc, &mailboxes, &inst, Capacity::Full, 1, &OpenGate)?;
+    Ok(Vec::from_slice(alloc, finished_run.journal.as_slice())?)
 }
 
 // Slips at a resident's desk, after which this desk is visited again before any other desk.
-const PASSING: [Slip; 4] = [
+const PASSING_SLIPS: [Slip; 4] = [
     Slip::Answer(A, 0, PutSlip::Full),
     Slip::Answer(A, 1, PutSlip::Full),
     Slip::Take(X, 0, TakeSlip::Nothing),
@@ -45,9 +45,9 @@ const PASSING: [Slip; 4] = [
 
 #[test]
 fn a_desk_that_missed_is_come_back_to_at_once(rt: HostRuntime) -> Result<(), Fail> {
-    for slip in PASSING {
+    for slip in PASSING_SLIPS {
         let journal = journal_over(rt, rt.alloc(), TWO_PLACES, slip)?;
-        assert!(rt; is_by_one(journal.as_slice()), "{slip:?}");
+        assert!(rt; is_by_one_worker(journal.as_slice()), "{slip:?}");
     }
     Ok(())
 }
@@ -62,41 +62,41 @@ const TEN_ANSWERS: Members = (
 // worker's patience.
 #[test]
 fn misses_before_an_entry_are_forgotten(rt: HostRuntime) {
-    let often = Slip::Answer(A, 0, PutSlip::OftenFull);
-    let journal = journal_over(rt, rt.alloc(), TEN_ANSWERS, often);
+    let often_full = Slip::Answer(A, 0, PutSlip::OftenFull);
+    let journal = journal_over(rt, rt.alloc(), TEN_ANSWERS, often_full);
     assert!(rt; journal.is_ok_and(|journal| journal.len() == 41));
 }
 
 // Keeps the call of `pass` for one desk waiting for a long time, and keeps the calls for another desk waiting until
 // this wait has begun.
 #[derive(Drop)]
-struct Later<R: Wait + Copy> {
+struct LateDesk<R: Wait + Copy> {
     rt: R,
     clock: AtomicU64,
-    desk: Desk,
-    before: Desk,
-    begun: AtomicBool,
+    late_desk: Desk,
+    next_desk: Desk,
+    has_begun: AtomicBool,
 }
 
-impl<R: Wait + Copy> Later<R> {
-    fn sleep(&self, micros: u64) {
+impl<R: Wait + Copy> LateDesk<R> {
+    fn sleep(&self, microseconds: u64) {
         self.clock
-            .park_timeout(&self.rt, 0, Duration::from_micros(micros));
+            .park_timeout(&self.rt, 0, Duration::from_micros(microseconds));
     }
 }
 
-impl<R: Wait + Copy + Sync> Gate for Later<R> {
+impl<R: Wait + Copy + Sync> Gate for LateDesk<R> {
     ghost MAY_STOP = { false };
 
     const MAY_STOP: bool = false;
 
     fn pass(&self, _worker: usize, desk: Desk) -> Go {
-        if desk == self.desk {
-            self.begun.store(true, Ordering::SeqCst);
+        if desk == self.late_desk {
+            self.has_begun.store(true, Ordering::SeqCst);
             self.sleep(400_000);
-        } else if desk == self.before {
+        } else if desk == self.next_desk {
             for _ in 0..5_000 {
-                if self.begun.load(Ordering::SeqCst) {
+                if self.has_begun.load(Ordering::SeqCst) {
                     break;
                 }
                 self.sleep(1_000);
@@ -110,46 +110,49 @@ impl<R: Wait + Copy + Sync> Gate for Later<R> {
 
 // The fault of a run in which a mailbox first loses an end, and then another worker has a receipt that may not
 // follow.
-fn told_first<R: Threads + Wait + Sync + Send + Copy>(rt: R, alloc: Global) -> Option<RunFault> {
-    let Ok(inst) = made(alloc, TWO_PLACES) else {
+fn first_fault<R: Threads + Wait + Sync + Send + Copy>(rt: R, alloc: Global) -> Option<RunFault> {
+    let Ok(inst) = instance_of(alloc, TWO_PLACES) else {
         return None;
     };
-    let strange = TakeSlip::Gives(OfferNote {
+    let strange_offer = TakeSlip::Gives(OfferNote {
         programme: ProgrammeNo(7),
     });
     let mailboxes = Slipping {
         rt,
-        slips: [Slip::Take(X, 1, TakeSlip::Gone), Slip::Take(Y, 0, strange)],
+        slips: [
+            Slip::Take(X, 1, TakeSlip::Gone),
+            Slip::Take(Y, 0, strange_offer),
+        ],
     };
-    let gate = Later {
+    let gate = LateDesk {
         rt,
         clock: AtomicU64::new(0),
-        desk: Desk::Resident(Y),
-        before: Desk::Resident(X),
-        begun: AtomicBool::new(false),
+        late_desk: Desk::Resident(Y),
+        next_desk: Desk::Resident(X),
+        has_begun: AtomicBool::new(false),
     };
     run_over(rt, alloc, &mailboxes, &inst, Capacity::Full, 2, &gate).err()
 }
 
 #[test]
 fn the_first_trouble_is_told(rt: HostRuntime) {
-    let outcome = told_first(rt, rt.alloc());
-    assert!(rt; outcome.is_some_and(|outcome| outcome == RunFault::MailGone(Desk::Resident(X))));
+    let fault = first_fault(rt, rt.alloc());
+    assert!(rt; fault.is_some_and(|fault| fault == RunFault::MailGone(Desk::Resident(X))));
 }
 
 // A gate that is slow after the first entry, though it says that it never keeps a worker waiting. So the desk that
 // the entry woke is not listed meanwhile. The gate goes on after three calls of `pass` by others, or after two
 // seconds.
 #[derive(Drop)]
-struct Slow<R: Wait + Copy> {
+struct SlowEntry<R: Wait + Copy> {
     rt: R,
     clock: AtomicU64,
     has_begun: AtomicBool,
-    passed: AtomicU64,
-    has_seen: AtomicBool,
+    passed_calls: AtomicU64,
+    has_seen_calls: AtomicBool,
 }
 
-impl<R: Wait + Copy + Sync> Gate for Slow<R> {
+impl<R: Wait + Copy + Sync> Gate for SlowEntry<R> {
     ghost MAY_STOP = { false };
 
     const MAY_STOP: bool = false;
@@ -157,7 +160,7 @@ impl<R: Wait + Copy + Sync> Gate for Slow<R> {
     const ENTERED_MAY_HOLD: bool = false;
 
     fn pass(&self, _worker: usize, _desk: Desk) -> Go {
-        self.passed.fetch_add(1, Ordering::SeqCst);
+        self.passed_calls.fetch_add(1, Ordering::SeqCst);
         Go::On
     }
 
@@ -166,8 +169,8 @@ impl<R: Wait + Copy + Sync> Gate for Slow<R> {
             return;
         }
         for _ in 0..2_000 {
-            if self.passed.load(Ordering::SeqCst) >= 3 {
-                self.has_seen.store(true, Ordering::SeqCst);
+            if self.passed_calls.load(Ordering::SeqCst) >= 3 {
+                self.has_seen_calls.store(true, Ordering::SeqCst);
                 return;
             }
             self.clock
@@ -181,14 +184,14 @@ const TWO_PAIRS: Members = (&[(1, &[0]), (1, &[1])], &[&[0], &[1]]);
 
 #[test]
 fn a_search_finds_what_no_list_has(rt: HostRuntime) {
-    let gate = Slow {
+    let gate = SlowEntry {
         rt,
         clock: AtomicU64::new(0),
         has_begun: AtomicBool::new(false),
-        passed: AtomicU64::new(0),
-        has_seen: AtomicBool::new(false),
+        passed_calls: AtomicU64::new(0),
+        has_seen_calls: AtomicBool::new(false),
     };
     let outcome = ran(rt, rt.alloc(), TWO_PAIRS, Capacity::Full, 2, &gate);
     let is_closed = outcome.is_ok_and(|outcome| outcome.ending == Ending::Closed);
-    assert!(rt; is_closed && gate.has_seen.load(Ordering::SeqCst));
+    assert!(rt; is_closed && gate.has_seen_calls.load(Ordering::SeqCst));
 }

@@ -14,22 +14,22 @@ use std::test::Fail;
 use std::thread::Threads;
 use std::time::Duration;
 use test_support::events::{X, Y};
-use test_support::instances::{Members, TWO_BY_TWO, made};
+use test_support::instances::{Members, TWO_BY_TWO, instance_of};
 
 // At which receipt a gate stops a run: at the first one of one desk, of all residents or of all programmes.
 #[derive(Clone, Copy, Debug, PartialEq, Eq)]
-enum At {
+enum StopPoint {
     Desk(Desk),
     Take,
     Hear,
 }
 
-impl At {
-    fn has(&self, desk: Desk) -> bool {
+impl StopPoint {
+    fn has_desk(&self, desk: Desk) -> bool {
         match self {
-            At::Desk(one) => *one == desk,
-            At::Take => matches!(&desk, Desk::Resident(_)),
-            At::Hear => matches!(&desk, Desk::Programme(_)),
+            StopPoint::Desk(stop_desk) => *stop_desk == desk,
+            StopPoint::Take => matches!(&desk, Desk::Resident(_)),
+            StopPoint::Hear => matches!(&desk, Desk::Programme(_)),
         }
     }
 }
@@ -39,18 +39,18 @@ impl At {
 #[derive(Drop)]
 struct StopsBeside<R: Wait + Copy> {
     latch: Latch<R>,
-    at: At,
+    stop_point: StopPoint,
     has_stopped: AtomicBool,
-    entered: AtomicU64,
+    entered_after_stop: AtomicU64,
 }
 
 impl<R: Wait + Copy> StopsBeside<R> {
-    fn new(latch: Latch<R>, at: At) -> StopsBeside<R> {
+    fn new(latch: Latch<R>, stop_point: StopPoint) -> StopsBeside<R> {
         StopsBeside {
             latch,
-            at,
+            stop_point,
             has_stopped: AtomicBool::new(false),
-            entered: AtomicU64::new(0),
+            entered_after_stop: AtomicU64::new(0),
         }
     }
 }
@@ -61,7 +61,7 @@ impl<R: Wait + Copy + Sync> Gate for StopsBeside<R> {
     const MAY_STOP: bool = true;
 
     fn pass(&self, _worker: usize, desk: Desk) -> Go {
-        if !self.at.has(desk) || !self.latch.arms() {
+        if !self.stop_point.has_desk(desk) || !self.latch.arms() {
             return Go::On;
         }
         self.latch.wait_until_begun();
@@ -71,7 +71,7 @@ impl<R: Wait + Copy + Sync> Gate for StopsBeside<R> {
 
     fn entered(&self, _worker: usize) {
         if self.has_stopped.load(Ordering::SeqCst) {
-            self.entered.fetch_add(1, Ordering::SeqCst);
+            self.entered_after_stop.fetch_add(1, Ordering::SeqCst);
             self.latch.opens();
         }
     }
@@ -79,41 +79,39 @@ impl<R: Wait + Copy + Sync> Gate for StopsBeside<R> {
 
 // How a run by two workers ends, over mailboxes under a latch. The latch's lifetime has a name here because the
 // borrow checker asks for one at this call.
-fn ended<'a, R: Threads + Wait + Sync + Send + Copy>(
+fn run_ending<'a, R: Threads + Wait + Sync + Send + Copy>(
     rt: R,
     alloc: Global,
     mailboxes: &Latched<'a, R>,
     inst: &Instance,
     gate: &StopsBeside<R>,
 ) -> Result<Ending, RunFault> {
-    let done = run_over(rt, alloc, mailboxes, inst, Capacity::Full, 2, gate)?;
-    Ok(done.ending)
+    let finished_run = run_over(rt, alloc, mailboxes, inst, Capacity::Full, 2, gate)?;
+    Ok(finished_run.ending)
 }
 
 // The fault of a run that was stopped at one resident's receipt, after another resident's mailbox lost an end.
-fn told_after_a_stop<R: Threads + Wait + Sync + Send + Copy>(
+fn fault_after_a_stop<R: Threads + Wait + Sync + Send + Copy>(
     rt: R,
     alloc: Global,
 ) -> Option<RunFault> {
-    let Ok(inst) = made(alloc, TWO_BY_TWO) else {
+    let Ok(inst) = instance_of(alloc, TWO_BY_TWO) else {
         return None;
     };
-    let gate = StopsBeside::new(Latch::new(rt, false), At::Desk(Desk::Resident(Y)));
+    let gate = StopsBeside::new(Latch::new(rt, false), StopPoint::Desk(Desk::Resident(Y)));
     let mailboxes = Latched {
         rt,
         latch: &gate.latch,
-        lost: Some(X),
+        lost_end_of: Some(X),
     };
-    ended(rt, alloc, &mailboxes, &inst, &gate).err()
+    run_ending(rt, alloc, &mailboxes, &inst, &gate).err()
 }
 
 #[test]
 fn a_trouble_after_a_stop_is_told(rt: HostRuntime) {
     for _ in 0..3 {
-        let outcome = told_after_a_stop(rt, rt.alloc());
-        assert!(rt;
-            outcome.is_some_and(|outcome| outcome == RunFault::MailGone(Desk::Resident(X)))
-        );
+        let fault = fault_after_a_stop(rt, rt.alloc());
+        assert!(rt; fault.is_some_and(|fault| fault == RunFault::MailGone(Desk::Resident(X))));
     }
 }
 
@@ -125,16 +123,16 @@ fn made_rivals(alloc: Global) -> Result<Instance, ModelFault> {
         builder.add_programme(1)?;
         builder.add_resident()?;
     }
-    for n in 0..10 {
-        let (first, second) = (2 * n, 2 * n + 1);
-        let both = [ResidentNo(first), ResidentNo(second)];
-        builder.programme_list(ProgrammeNo(first), &both[..1])?;
-        builder.programme_list(ProgrammeNo(second), &both)?;
+    for pair in 0..10 {
+        let (first_number, second_number) = (2 * pair, 2 * pair + 1);
+        let both_residents = [ResidentNo(first_number), ResidentNo(second_number)];
+        builder.programme_list(ProgrammeNo(first_number), &both_residents[..1])?;
+        builder.programme_list(ProgrammeNo(second_number), &both_residents)?;
         builder.resident_list(
-            ResidentNo(first),
-            &[ProgrammeNo(first), ProgrammeNo(second)],
+            ResidentNo(first_number),
+            &[ProgrammeNo(first_number), ProgrammeNo(second_number)],
         )?;
-        builder.resident_list(ResidentNo(second), &[ProgrammeNo(second)])?;
+        builder.resident_list(ResidentNo(second_number), &[ProgrammeNo(second_number)])?;
     }
     builder.finish().map_err(|refused| refused.fault)
 }
@@ -145,55 +143,55 @@ fn is_heeded_at_once<R: Threads + Wait + Sync + Send + Copy>(
     rt: R,
     alloc: Global,
     inst: &Instance,
-    at: At,
+    stop_point: StopPoint,
 ) -> bool {
-    let gate = StopsBeside::new(Latch::new(rt, true), at);
+    let gate = StopsBeside::new(Latch::new(rt, true), stop_point);
     let mailboxes = Latched {
         rt,
         latch: &gate.latch,
-        lost: None,
+        lost_end_of: None,
     };
-    let ending = ended(rt, alloc, &mailboxes, inst, &gate);
+    let ending = run_ending(rt, alloc, &mailboxes, inst, &gate);
     ending == Ok(Ending::Stopped)
         && gate.latch.has_begun()
-        && gate.entered.load(Ordering::SeqCst) == 2
+        && gate.entered_after_stop.load(Ordering::SeqCst) == 2
 }
 
 // Other work of the machine may delay the worker that should obey the stop, but not in two of three runs.
 #[test]
 fn a_stop_is_heeded_before_its_receipt_is_entered(rt: HostRuntime) -> Result<(), Fail> {
     let inst = made_rivals(rt.alloc())?;
-    for at in [At::Take, At::Hear] {
-        let mut heeded = 0_u32;
+    for stop_point in [StopPoint::Take, StopPoint::Hear] {
+        let mut heeded_runs = 0_u32;
         for _ in 0..3 {
-            let is_heeded = is_heeded_at_once(rt, rt.alloc(), &inst, at);
-            heeded = heeded.saturating_add(is_heeded as u32);
+            let is_heeded = is_heeded_at_once(rt, rt.alloc(), &inst, stop_point);
+            heeded_runs = heeded_runs.saturating_add(is_heeded as u32);
         }
-        assert!(rt; heeded >= 2, "{at:?}: {heeded} of 3");
+        assert!(rt; heeded_runs >= 2, "{stop_point:?}: {heeded_runs} of 3");
     }
     Ok(())
 }
 
-// Waits until the number is at least `least`, or until this many milliseconds have passed. Returns whether the number
-// is large enough.
+// Waits until the counter is at least `least_count`, or until this many milliseconds have passed. Returns whether the
+// counter is large enough.
 fn wait_for<R: Wait + Copy>(
     rt: R,
     clock: &AtomicU64,
-    number: &AtomicU64,
-    least: u64,
-    millis: u64,
+    counter: &AtomicU64,
+    least_count: u64,
+    milliseconds: u64,
 ) -> bool {
-    for _ in 0..millis {
-        if number.load(Ordering::SeqCst) >= least {
+    for _ in 0..milliseconds {
+        if counter.load(Ordering::SeqCst) >= least_count {
             return true;
         }
         clock.park_timeout(&rt, 0, Duration::from_millis(1));
     }
-    number.load(Ordering::SeqCst) >= least
+    counter.load(Ordering::SeqCst) >= least_count
 }
 
 // How long a gate waits for an event that must come, in milliseconds.
-const LONG: u64 = 15_000;
+const LONG_WAIT: u64 = 15_000;
 
 // A gate for two pairs and two workers, each of which has one of the last two hears. The worker that enters its hear
 // first goes on once the other one has entered its hear, and closes the exchange. The other worker goes on once the
@@ -202,8 +200,8 @@ const LONG: u64 = 15_000;
 struct ClosesBeside<R: Wait + Copy> {
     rt: R,
     clock: AtomicU64,
-    hears: AtomicU64,
-    entered: AtomicU64,
+    hear_count: AtomicU64,
+    entered_count: AtomicU64,
 }
 
 impl<R: Wait + Copy + Sync> Gate for ClosesBeside<R> {
@@ -212,31 +210,31 @@ impl<R: Wait + Copy + Sync> Gate for ClosesBeside<R> {
     const MAY_STOP: bool = false;
 
     fn pass(&self, _worker: usize, desk: Desk) -> Go {
-        if At::Hear.has(desk) {
-            self.hears.fetch_add(1, Ordering::SeqCst);
-            wait_for(self.rt, &self.clock, &self.hears, 2, LONG);
+        if StopPoint::Hear.has_desk(desk) {
+            self.hear_count.fetch_add(1, Ordering::SeqCst);
+            wait_for(self.rt, &self.clock, &self.hear_count, 2, LONG_WAIT);
         }
         Go::On
     }
 
     fn entered(&self, _worker: usize) {
-        let count = self
-            .entered
+        let entered_count = self
+            .entered_count
             .fetch_add(1, Ordering::SeqCst)
             .saturating_add(1);
         // two hears come, then the close, and no event after that
-        match count {
+        match entered_count {
             7 | 8 => {
                 wait_for(
                     self.rt,
                     &self.clock,
-                    &self.entered,
-                    count.saturating_add(1),
-                    LONG,
+                    &self.entered_count,
+                    entered_count.saturating_add(1),
+                    LONG_WAIT,
                 );
             }
             9 => {
-                wait_for(self.rt, &self.clock, &self.entered, 10, 700);
+                wait_for(self.rt, &self.clock, &self.entered_count, 10, 700);
             }
             _ => {}
         }
@@ -251,12 +249,12 @@ fn a_close_is_told_once(rt: HostRuntime) -> Result<(), Fail> {
     let gate = ClosesBeside {
         rt,
         clock: AtomicU64::new(0),
-        hears: AtomicU64::new(0),
-        entered: AtomicU64::new(0),
+        hear_count: AtomicU64::new(0),
+        entered_count: AtomicU64::new(0),
     };
     let outcome = ran(rt, rt.alloc(), TWO_PAIRS, Capacity::Full, 2, &gate)?;
     assert!(rt; outcome.ending == Ending::Closed && outcome.journal.len() == 9);
-    assert!(rt; gate.entered.load(Ordering::SeqCst) == 9);
+    assert!(rt; gate.entered_count.load(Ordering::SeqCst) == 9);
     Ok(())
 }
 
@@ -270,25 +268,25 @@ fn a_close_is_told_once(rt: HostRuntime) -> Result<(), Fail> {
 struct HoldsHear<R: Wait + Copy> {
     rt: R,
     clock: AtomicU64,
-    entered: (AtomicU64, AtomicU64),
-    second: AtomicU64,
+    entered_by_worker: (AtomicU64, AtomicU64),
+    second_worker: AtomicU64,
     has_held: AtomicBool,
-    has_seen: AtomicBool,
+    has_seen_answers: AtomicBool,
 }
 
 impl<R: Wait + Copy> HoldsHear<R> {
     // How many events this worker entered, and how many the other one entered.
     fn entries(&self, worker: usize) -> (&AtomicU64, &AtomicU64) {
-        let (first, second) = &self.entered;
+        let (first_entries, second_entries) = &self.entered_by_worker;
         if worker == 0 {
-            (first, second)
+            (first_entries, second_entries)
         } else {
-            (second, first)
+            (second_entries, first_entries)
         }
     }
 
-    fn waits_for(&self, entries: &AtomicU64, least: u64) -> bool {
-        wait_for(self.rt, &self.clock, entries, least, LONG)
+    fn waits_for(&self, entries: &AtomicU64, least_count: u64) -> bool {
+        wait_for(self.rt, &self.clock, entries, least_count, LONG_WAIT)
     }
 }
 
@@ -300,17 +298,17 @@ impl<R: Wait + Copy + Sync> Gate for HoldsHear<R> {
     const ENTERED_MAY_HOLD: bool = false;
 
     fn pass(&self, worker: usize, desk: Desk) -> Go {
-        let (_, others) = self.entries(worker);
+        let (_, other_entries) = self.entries(worker);
         match desk {
             Desk::Resident(ResidentNo(10)) => {
-                self.second
+                self.second_worker
                     .store((worker as u64).saturating_add(1), Ordering::SeqCst);
-                self.waits_for(others, 3);
+                self.waits_for(other_entries, 3);
             }
             Desk::Programme(ProgrammeNo(0)) if !self.has_held.swap(true, Ordering::SeqCst) => {
                 // four events of the second programme, and two for each of the four offers
-                let all = self.waits_for(others, 12);
-                self.has_seen.store(all, Ordering::SeqCst);
+                let are_answered = self.waits_for(other_entries, 12);
+                self.has_seen_answers.store(are_answered, Ordering::SeqCst);
             }
             _ => {}
         }
@@ -318,15 +316,16 @@ impl<R: Wait + Copy + Sync> Gate for HoldsHear<R> {
     }
 
     fn entered(&self, worker: usize) {
-        let (own, others) = self.entries(worker);
-        let is_second = self.second.load(Ordering::SeqCst) == (worker as u64).saturating_add(1);
-        match own.fetch_add(1, Ordering::SeqCst).saturating_add(1) {
+        let (own_entries, other_entries) = self.entries(worker);
+        let serves_second = self.second_worker.load(Ordering::SeqCst)
+            == (worker as u64).saturating_add(1);
+        match own_entries.fetch_add(1, Ordering::SeqCst).saturating_add(1) {
             1 => {
-                self.waits_for(others, 1);
+                self.waits_for(other_entries, 1);
             }
-            3 if !is_second => {
+            3 if !serves_second => {
                 // four events of the second programme, a take and an answer
-                self.waits_for(others, 6);
+                self.waits_for(other_entries, 6);
             }
             _ => {}
         }
@@ -356,13 +355,13 @@ fn what_a_visit_woke_is_listed_before_a_hear_passes(rt: HostRuntime) -> Result<(
     let gate = HoldsHear {
         rt,
         clock: AtomicU64::new(0),
-        entered: (AtomicU64::new(0), AtomicU64::new(0)),
-        second: AtomicU64::new(0),
+        entered_by_worker: (AtomicU64::new(0), AtomicU64::new(0)),
+        second_worker: AtomicU64::new(0),
         has_held: AtomicBool::new(false),
-        has_seen: AtomicBool::new(false),
+        has_seen_answers: AtomicBool::new(false),
     };
     let outcome = ran(rt, rt.alloc(), TEN_AND_ONE, Capacity::Full, 2, &gate)?;
     assert!(rt; outcome.ending == Ending::Closed);
-    assert!(rt; gate.has_seen.load(Ordering::SeqCst));
+    assert!(rt; gate.has_seen_answers.load(Ordering::SeqCst));
     Ok(())
 }

@@ -17,9 +17,9 @@ use test_support::events::{A, X, Y};
 use test_support::instances::Members;
 use test_support::markets::made_pairs;
 
-const NONE: (u64, Until) = (0, Until::Entered(0));
+const NO_LATER_WAITS: (u64, Until) = (0, Until::Entered(0));
 
-const FIRST: Desk = Desk::Resident(X);
+const FIRST_RESIDENT: Desk = Desk::Resident(X);
 
 // Four programmes that all rank the same resident.
 const ALL_FOR_ONE: Members = (
@@ -32,7 +32,7 @@ const ALL_FOR_ONE: Members = (
 const AT_THE_SECOND_TAKE: Holds = Holds {
     begun: 0,
     offers: 0,
-    first: (FIRST, 4),
+    first: (FIRST_RESIDENT, 4),
     other: None,
     next: (1, Until::Entered(7)),
 };
@@ -49,8 +49,8 @@ const BESIDE_PROGRAMMES: Holds = Holds {
     begun: 0,
     offers: 0,
     first: (Desk::Resident(Y), 2),
-    other: Some((FIRST, 17)),
-    next: NONE,
+    other: Some((FIRST_RESIDENT, 17)),
+    next: NO_LATER_WAITS,
 };
 
 // A pair, and a programme with a place for each of its four residents.
@@ -64,9 +64,9 @@ const RESIDENTS_WAIT: Members = (
 const BESIDE_RESIDENTS: Holds = Holds {
     begun: 0,
     offers: 5,
-    first: (FIRST, 17),
+    first: (FIRST_RESIDENT, 17),
     other: None,
-    next: NONE,
+    next: NO_LATER_WAITS,
 };
 
 const AT_TAKES: [(Members, Capacity, Holds, &[usize]); 3] = [
@@ -79,10 +79,10 @@ const AT_TAKES: [(Members, Capacity, Holds, &[usize]); 3] = [
 fn leaves_no_work<R: Threads + Wait + Sync + Send + Copy>(
     rt: R,
     alloc: Global,
-    form: (Members, Capacity, usize),
+    run_setup: (Members, Capacity, usize),
     holds: Holds,
 ) -> bool {
-    let (members, cap, workers) = form;
+    let (members, cap, workers) = run_setup;
     let gate = UntilDone::new(rt, holds);
     let outcome = ran(rt, alloc, members, cap, workers, &gate);
     gate.has_held_all() && outcome.is_ok_and(|outcome| outcome.ending == Ending::Closed)
@@ -90,8 +90,8 @@ fn leaves_no_work<R: Threads + Wait + Sync + Send + Copy>(
 
 #[test]
 fn no_work_is_left_while_workers_are_held_in_passes(rt: HostRuntime) {
-    for (members, cap, holds, all) in AT_TAKES {
-        for workers in all {
+    for (members, cap, holds, worker_counts) in AT_TAKES {
+        for workers in worker_counts {
             assert!(rt;
                 leaves_no_work(rt, rt.alloc(), (members, cap, *workers), holds),
                 "{holds:?}, {workers} workers"
@@ -101,13 +101,13 @@ fn no_work_is_left_while_workers_are_held_in_passes(rt: HostRuntime) {
 }
 
 // What a worker enters next in a market of pairs, through mailboxes that never fill.
-const A_PUT: u32 = 0;
+const PUT_ENTRY: u32 = 0;
 
-const A_TAKE: u32 = 1;
+const TAKE_ENTRY: u32 = 1;
 
-const A_HEAR: u32 = 2;
+const HEAR_ENTRY: u32 = 2;
 
-const ITS_ANSWER: u32 = 3;
+const ANSWER_ENTRY: u32 = 3;
 
 // How many pairs there are. Each pair has four events.
 const PAIRS: u32 = 4;
@@ -118,78 +118,87 @@ const LOOKS: u32 = 10_000;
 // A gate for pairs of a programme with one place and a resident. After the event with this number, counted from 1, it
 // keeps the worker waiting until every event is entered that doesn't need this worker's desk.
 #[derive(Drop)]
-struct HoldsTold<R: Wait + Copy> {
+struct HoldsAfterEntry<R: Wait + Copy> {
     rt: R,
     clock: AtomicU64,
-    place: u32,
-    entered: AtomicU32,
-    next: [AtomicU32; 3],
+    held_event: u32,
+    entered_count: AtomicU32,
+    next_events: [AtomicU32; 3],
     all_else_entered: AtomicBool,
 }
 
-impl<R: Wait + Copy> HoldsTold<R> {
-    fn new(rt: R, place: u32) -> HoldsTold<R> {
-        HoldsTold {
+impl<R: Wait + Copy> HoldsAfterEntry<R> {
+    fn new(rt: R, held_event: u32) -> HoldsAfterEntry<R> {
+        HoldsAfterEntry {
             rt,
             clock: AtomicU64::new(0),
-            place,
-            entered: AtomicU32::new(0),
-            next: [
-                AtomicU32::new(A_PUT),
-                AtomicU32::new(A_PUT),
-                AtomicU32::new(A_PUT),
+            held_event,
+            entered_count: AtomicU32::new(0),
+            next_events: [
+                AtomicU32::new(PUT_ENTRY),
+                AtomicU32::new(PUT_ENTRY),
+                AtomicU32::new(PUT_ENTRY),
             ],
             all_else_entered: AtomicBool::new(false),
         }
     }
 
     // After the worker's last entry, how many events of this pair still need the worker.
-    fn needed(&self, worker: usize) -> u32 {
-        let Some(next) = self.next.get(worker) else {
+    fn events_needing(&self, worker: usize) -> u32 {
+        let Some(next_event) = self.next_events.get(worker) else {
             return 0;
         };
-        let now = next.load(Ordering::SeqCst);
-        next.store(
-            if now == A_TAKE { ITS_ANSWER } else { A_PUT },
+        let entered_event = next_event.load(Ordering::SeqCst);
+        next_event.store(
+            if entered_event == TAKE_ENTRY {
+                ANSWER_ENTRY
+            } else {
+                PUT_ENTRY
+            },
             Ordering::SeqCst,
         );
-        match now {
-            A_TAKE => 2,
-            A_HEAR | ITS_ANSWER => 0,
+        match entered_event {
+            TAKE_ENTRY => 2,
+            HEAR_ENTRY | ANSWER_ENTRY => 0,
             // an offer, whose answer only this desk hears
             _ => 1,
         }
     }
 }
 
-impl<R: Wait + Copy + Sync> Gate for HoldsTold<R> {
+impl<R: Wait + Copy + Sync> Gate for HoldsAfterEntry<R> {
     ghost MAY_STOP = { false };
 
     const MAY_STOP: bool = false;
 
     fn pass(&self, worker: usize, desk: Desk) -> Go {
-        if let Some(next) = self.next.get(worker) {
+        if let Some(next_event) = self.next_events.get(worker) {
             let receipt = match desk {
-                Desk::Resident(_) => A_TAKE,
-                Desk::Programme(_) => A_HEAR,
+                Desk::Resident(_) => TAKE_ENTRY,
+                Desk::Programme(_) => HEAR_ENTRY,
             };
-            next.store(receipt, Ordering::SeqCst);
+            next_event.store(receipt, Ordering::SeqCst);
         }
         Go::On
     }
 
     fn entered(&self, worker: usize) {
-        let needed = self.needed(worker);
+        let needed_events = self.events_needing(worker);
         if self
-            .entered
+            .entered_count
             .fetch_add(1, Ordering::SeqCst)
             .saturating_add(1)
-            != self.place
+            != self.held_event
         {
             return;
         }
         for _ in 0..LOOKS {
-            if self.entered.load(Ordering::SeqCst).saturating_add(needed) >= 4 * PAIRS {
+            if self
+                .entered_count
+                .load(Ordering::SeqCst)
+                .saturating_add(needed_events)
+                >= 4 * PAIRS
+            {
                 self.all_else_entered.store(true, Ordering::SeqCst);
                 return;
             }
@@ -203,12 +212,12 @@ impl<R: Wait + Copy + Sync> Gate for HoldsTold<R> {
 fn no_work_is_left_while_a_worker_is_told_of_an_entry(rt: HostRuntime) -> Result<(), Fail> {
     let inst = made_pairs(rt.alloc(), PAIRS)?;
     for workers in [2, 3] {
-        for place in 1..=4 * PAIRS {
-            let gate = HoldsTold::new(rt, place);
+        for held_event in 1..=4 * PAIRS {
+            let gate = HoldsAfterEntry::new(rt, held_event);
             let outcome = ran_on(rt, rt.alloc(), &inst, Capacity::Full, workers, &gate)?;
             assert!(rt;
                 outcome.ending == Ending::Closed && gate.all_else_entered.load(Ordering::SeqCst),
-                "event {place}, {workers} workers"
+                "event {held_event}, {workers} workers"
             );
         }
     }
@@ -230,18 +239,18 @@ const TRIES: u32 = 4;
 // the first programme makes three more offers, and all workers but one wait at takes until the third take has begun.
 #[test]
 fn each_that_sleeps_is_woken_for_what_one_visit_gave(rt: HostRuntime) {
-    for (workers, most) in [(2, 1), (3, 2)] {
+    for (workers, waiting_workers) in [(2, 1), (3, 2)] {
         for _ in 0..TRIES {
             let holds = Holds {
                 begun: 2,
                 offers: 6,
                 first: (Desk::Programme(A), 21),
                 other: None,
-                next: (most, Until::Takes(9)),
+                next: (waiting_workers, Until::Takes(9)),
             };
-            let form = (THREE_LOST, Capacity::Full, workers);
+            let run_setup = (THREE_LOST, Capacity::Full, workers);
             assert!(rt;
-                leaves_no_work(rt, rt.alloc(), form, holds),
+                leaves_no_work(rt, rt.alloc(), run_setup, holds),
                 "{workers} workers"
             );
         }
@@ -254,10 +263,10 @@ fn made_crowd(alloc: Global) -> Result<Instance, ModelFault> {
     let mut builder = InstanceBuilder::new(alloc);
     let programme = builder.add_programme(70)?;
     let mut list = Vec::new(alloc);
-    for r in 0..70 {
+    for number in 0..70 {
         let resident = builder.add_resident()?;
         builder.resident_list(resident, &[programme])?;
-        let Ok(()) = list.push(ResidentNo(69 - r)) else {
+        let Ok(()) = list.push(ResidentNo(69 - number)) else {
             return Err(ModelFault::Memory);
         };
     }
@@ -273,9 +282,9 @@ fn a_visit_that_wakes_many_lists_them_all(rt: HostRuntime) -> Result<(), Fail> {
     let holds = Holds {
         begun: 0,
         offers: 70,
-        first: (FIRST, 277),
+        first: (FIRST_RESIDENT, 277),
         other: None,
-        next: NONE,
+        next: NO_LATER_WAITS,
     };
     let gate = UntilDone::new(rt, holds);
     let outcome = ran_on(rt, rt.alloc(), &inst, Capacity::Full, 2, &gate)?;

@@ -8,7 +8,7 @@ use std::test::Fail;
 use std::thread::Threads;
 use test_gates::gates::{Firm, Held, Loose, StopsAtOnce};
 use test_support::events::{A, B, X};
-use test_support::instances::{Members, TWO_BY_TWO, TWO_PLACES, has_places, made};
+use test_support::instances::{Members, TWO_BY_TWO, TWO_PLACES, has_places, instance_of};
 use test_support::markets::made_in_one_order;
 
 // The result of a run without the ends and the agents.
@@ -51,7 +51,7 @@ pub(crate) fn ran<G: Gate + Sync, R: Threads + Wait + Sync + Send + Copy>(
     workers: usize,
     gate: &G,
 ) -> Result<Outcome, RunFault> {
-    match made(alloc, members) {
+    match instance_of(alloc, members) {
         Ok(inst) => ran_on(rt, alloc, &inst, cap, workers, gate),
         Err(_) => Err(RunFault::Memory),
     }
@@ -184,25 +184,25 @@ fn refuses_a_bad_number_of_workers_or_capacity(rt: HostRuntime) {
 
 // Whether a gate kept a worker waiting, the run closed, each worker entered as many events as the gate counted, and
 // at least two workers entered some.
-fn is_seen(outcome: &Outcome, held: &Held) -> bool {
-    let mut busy = 0_usize;
+fn agrees_with_gate(outcome: &Outcome, held: &Held) -> bool {
+    let mut busy_workers = 0_usize;
     for (worker, entered) in outcome.entered.iter().enumerate() {
         if *entered != held.count(worker) {
             return false;
         }
         if *entered > 0 {
-            busy = busy.saturating_add(1);
+            busy_workers = busy_workers.saturating_add(1);
         }
     }
     held.has_held()
         && outcome.ending == Ending::Closed
-        && busy >= 2
+        && busy_workers >= 2
         && outcome.journal.len() as u64 == held.count_all()
         && outcome.who.len() == outcome.journal.len()
 }
 
 // How many events a run has; none unless its gate kept a worker waiting and the result is right.
-fn seen<G: Gate + Sync, R: Threads + Wait + Sync + Send + Copy>(
+fn counted_events<G: Gate + Sync, R: Threads + Wait + Sync + Send + Copy>(
     rt: R,
     alloc: Global,
     members: Members,
@@ -213,7 +213,7 @@ fn seen<G: Gate + Sync, R: Threads + Wait + Sync + Send + Copy>(
     let Ok(outcome) = ran(rt, alloc, members, Capacity::Full, workers, gate) else {
         return None;
     };
-    if is_seen(&outcome, held) {
+    if agrees_with_gate(&outcome, held) {
         Some(outcome.journal.len())
     } else {
         None
@@ -224,18 +224,25 @@ fn seen<G: Gate + Sync, R: Threads + Wait + Sync + Send + Copy>(
 fn two_at_once(rt: HostRuntime) {
     let alloc = rt.alloc();
     for workers in 2..=8 {
-        for (members, counts) in [(TWO_BY_TWO, [9, 9]), (TWO_PLACES, [17, 19])] {
-            let firm = Firm(Held::new(0));
-            let events = seen(rt, alloc, members, workers, &firm, &firm.0);
+        for (members, event_counts) in [(TWO_BY_TWO, [9, 9]), (TWO_PLACES, [17, 19])] {
+            let firm_gate = Firm(Held::new(0));
+            let event_count = counted_events(rt, alloc, members, workers, &firm_gate, &firm_gate.0);
             assert!(rt;
-                events.is_some_and(|n| counts.contains(&n)),
-                "{counts:?}, {workers}"
+                event_count.is_some_and(|count| event_counts.contains(&count)),
+                "{event_counts:?}, {workers}"
             );
-            let loose = Loose(Held::new(0));
-            let events = seen(rt, alloc, members, workers, &loose, &loose.0);
+            let loose_gate = Loose(Held::new(0));
+            let event_count = counted_events(
+                rt,
+                alloc,
+                members,
+                workers,
+                &loose_gate,
+                &loose_gate.0,
+            );
             assert!(rt;
-                events.is_some_and(|n| counts.contains(&n)),
-                "{counts:?}, {workers}"
+                event_count.is_some_and(|count| event_counts.contains(&count)),
+                "{event_counts:?}, {workers}"
             );
         }
     }
@@ -243,8 +250,8 @@ fn two_at_once(rt: HostRuntime) {
 
 // Whether the first 2,000 residents are at the first programme, the next 2,000 at the second, and so on.
 fn is_in_one_order(sheet: &Assignment) -> bool {
-    for r in 0..sheet.len() {
-        if sheet.get(ResidentNo(r)) != Some(ProgrammeNo(r / 2_000)) {
+    for resident in 0..sheet.len() {
+        if sheet.get(ResidentNo(resident)) != Some(ProgrammeNo(resident / 2_000)) {
             return false;
         }
     }
@@ -254,10 +261,10 @@ fn is_in_one_order(sheet: &Assignment) -> bool {
 #[test]
 fn two_at_once_on_their_way(rt: HostRuntime) -> Result<(), Fail> {
     let inst = made_in_one_order(rt.alloc())?;
-    let firm = Firm(Held::new(9_999));
-    let outcome = ran_on(rt, rt.alloc(), &inst, Capacity::Full, 2, &firm);
+    let firm_gate = Firm(Held::new(9_999));
+    let outcome = ran_on(rt, rt.alloc(), &inst, Capacity::Full, 2, &firm_gate);
     assert!(rt;
-        outcome.is_ok_and(|outcome| is_seen(&outcome, &firm.0)
+        outcome.is_ok_and(|outcome| agrees_with_gate(&outcome, &firm_gate.0)
             && is_in_one_order(&outcome.assignment))
     );
     Ok(())
@@ -265,19 +272,21 @@ fn two_at_once_on_their_way(rt: HostRuntime) -> Result<(), Fail> {
 
 // Whether a run was stopped after one take, and its workers entered exactly the events of its journal.
 fn is_stopped(outcome: &Outcome) -> bool {
-    let mut takes = 0_usize;
+    let mut take_count = 0_usize;
     for event in &outcome.journal {
         match event {
             Event::Close => return false,
-            Event::Take { .. } => takes = takes.saturating_add(1),
+            Event::Take { .. } => take_count = take_count.saturating_add(1),
             _ => {}
         }
     }
-    let mut entered = 0_u64;
-    for count in &outcome.entered {
-        entered = entered.saturating_add(*count);
+    let mut entered_sum = 0_u64;
+    for worker_entries in &outcome.entered {
+        entered_sum = entered_sum.saturating_add(*worker_entries);
     }
-    outcome.ending == Ending::Stopped && takes > 0 && outcome.journal.len() as u64 == entered
+    outcome.ending == Ending::Stopped
+        && take_count > 0
+        && outcome.journal.len() as u64 == entered_sum
 }
 
 #[test]
@@ -286,7 +295,7 @@ fn heeds_a_stop(rt: HostRuntime) {
     assert!(rt; outcome.is_ok_and(|outcome| is_stopped(&outcome)));
 }
 
-const TORN: &str = "a desk's log differs from the journal";
+const TORN_TEXT: &str = "a desk's log differs from the journal";
 
 // Whether a fault prints as this text.
 fn says(alloc: Global, fault: RunFault, text: &str) -> Result<bool, AllocError> {
@@ -294,14 +303,14 @@ fn says(alloc: Global, fault: RunFault, text: &str) -> Result<bool, AllocError> 
 }
 
 // Whether the faults that name an event or a desk print the expected texts.
-fn desks_are_told(alloc: Global) -> Result<bool, AllocError> {
-    let receipt = RunFault::OutOfStep {
+fn desk_faults_print(alloc: Global) -> Result<bool, AllocError> {
+    let receipt_fault = RunFault::OutOfStep {
         journal: Vec::new(alloc),
         event: Event::Close,
     };
     Ok(
-        says(alloc, receipt, "a receipt was out of step")?
-            && says(alloc, RunFault::Torn(Desk::Resident(X)), TORN)?
+        says(alloc, receipt_fault, "a receipt was out of step")?
+            && says(alloc, RunFault::Torn(Desk::Resident(X)), TORN_TEXT)?
             && says(
                 alloc,
                 RunFault::MailGone(Desk::Programme(B)),
@@ -317,6 +326,6 @@ fn prints_its_faults(rt: HostRuntime) -> Result<(), Fail> {
     assert!(rt; says(alloc, RunFault::BadCapacity, "bad capacity")?);
     assert!(rt; says(alloc, RunFault::Memory, "out of memory")?);
     assert!(rt; says(alloc, RunFault::Thread, "a worker could not be started")?);
-    assert!(rt; desks_are_told(alloc)?);
+    assert!(rt; desk_faults_print(alloc)?);
     Ok(())
 }

@@ -12,7 +12,7 @@ use std::mem;
 use std::sync::Wait;
 
 /// The greatest number of messages that an end gives.
-const MOST: usize = 64;
+const MOST_MESSAGES: usize = 64;
 
 /// What a sending end does at one of its calls, or at this call and all later calls.
 #[derive(Clone, Copy, Debug, PartialEq, Eq)]
@@ -48,7 +48,7 @@ pub(crate) enum TakeSlip<M> {
 #[derive(Drop)]
 pub(crate) struct SlippingPut<M: Copy, R: Wait + Copy> {
     end: RuledPut<M, R>,
-    calls: u32,
+    call_count: u32,
     slip: Option<(u32, PutSlip)>,
 }
 
@@ -68,13 +68,13 @@ impl<M: Copy, R: Wait + Copy> PutEnd<M> for SlippingPut<M, R> {
     ghost may_go = { λ _. Unit {0} };
 
     fn put(&mut self, m: M) -> PutReply<M> {
-        let call = self.calls;
-        self.calls = call.saturating_add(1);
+        let call = self.call_count;
+        self.call_count = call.saturating_add(1);
         match self.slip {
-            Some((at, PutSlip::Full)) if at == call => PutReply::Full(m),
-            Some((at, PutSlip::AlwaysFull)) if at <= call => PutReply::Full(m),
+            Some((slip_call, PutSlip::Full)) if slip_call == call => PutReply::Full(m),
+            Some((slip_call, PutSlip::AlwaysFull)) if slip_call <= call => PutReply::Full(m),
             Some((_, PutSlip::OftenFull)) if call % 8 < 7 => PutReply::Full(m),
-            Some((at, PutSlip::Gone)) if at <= call => PutReply::Gone(m),
+            Some((slip_call, PutSlip::Gone)) if slip_call <= call => PutReply::Gone(m),
             _ => self.end.put(m),
         }
     }
@@ -84,10 +84,10 @@ impl<M: Copy, R: Wait + Copy> PutEnd<M> for SlippingPut<M, R> {
 #[derive(Drop)]
 pub(crate) struct SlippingTake<M: Copy, R: Wait + Copy> {
     end: RuledTake<M, R>,
-    given: Vec<M>,
+    given_messages: Vec<M>,
     has_slipped: bool,
     slip: Option<(u32, TakeSlip<M>)>,
-    ghost reserved: { 64 ≤ vec_capacity given },
+    ghost reserved: { 64 ≤ vec_capacity given_messages },
 }
 
 impl<M: Copy, R: Wait + Copy> Model for SlippingTake<M, R> {
@@ -95,30 +95,31 @@ impl<M: Copy, R: Wait + Copy> Model for SlippingTake<M, R> {
 
     ghost Value = { List M };
 
-    ghost view = { λ e. e.given.items };
+    ghost view = { λ e. e.given_messages.items };
 }
 
 impl<M: Copy, R: Wait + Copy> TakeEnd<M> for SlippingTake<M, R> {
-    ghost taken = { λ given. given };
+    ghost taken = { λ messages. messages };
 
     ghost may_lack = { λ _. Unit {0} };
 
     ghost may_go = { λ _. Unit {0} };
 
     fn take(&mut self) -> TakeReply<M> {
-        if self.given.len() >= MOST {
+        if self.given_messages.len() >= MOST_MESSAGES {
             return TakeReply::Nothing;
         }
         let reply = match self.slip {
-            Some((at, slip)) if at as usize <= self.given.len() => self.slipped(slip),
+            Some((slip_count, slip)) if slip_count as usize <= self.given_messages.len() =>
+                self.slipped_reply(slip),
             _ => self.end.take(),
         };
         match reply {
-            TakeReply::Got(m) => {
-                self.given.push_reserved(m);
-                TakeReply::Got(m)
+            TakeReply::Got(message) => {
+                self.given_messages.push_reserved(message);
+                TakeReply::Got(message)
             }
-            other => other,
+            other_reply => other_reply,
         }
     }
 }
@@ -126,7 +127,7 @@ impl<M: Copy, R: Wait + Copy> TakeEnd<M> for SlippingTake<M, R> {
 impl<M: Copy, R: Wait + Copy> SlippingTake<M, R> {
     // The wrong answer to a call that takes a message. Most kinds of wrong answer come once, and two kinds come
     // again and again.
-    fn slipped(&mut self, slip: TakeSlip<M>) -> TakeReply<M>
+    fn slipped_reply(&mut self, slip: TakeSlip<M>) -> TakeReply<M>
         ensures { self.new ≡ self.old }
     {
         let has_slipped = mem::replace(&mut self.has_slipped, true);
@@ -135,9 +136,9 @@ impl<M: Copy, R: Wait + Copy> SlippingTake<M, R> {
             TakeSlip::Gone => TakeReply::Gone,
             _ if has_slipped => self.end.take(),
             TakeSlip::Nothing => TakeReply::Nothing,
-            TakeSlip::Gives(m) => TakeReply::Got(m),
-            TakeSlip::Repeats => match self.given.last() {
-                Some(m) => TakeReply::Got(*m),
+            TakeSlip::Gives(message) => TakeReply::Got(message),
+            TakeSlip::Repeats => match self.given_messages.last() {
+                Some(message) => TakeReply::Got(*message),
                 None => TakeReply::Nothing,
             },
         }
@@ -180,12 +181,12 @@ fn ends_of<M: Copy + Eq, R: Wait + Copy>(
     let (put, take) = mailbox(alloc, rt, room)?;
     let put = SlippingPut {
         end: put,
-        calls: 0,
+        call_count: 0,
         slip: put_slip,
     };
     let take = SlippingTake {
         end: take,
-        given: Vec::with_capacity(alloc, MOST)?,
+        given_messages: Vec::with_capacity(alloc, MOST_MESSAGES)?,
         has_slipped: false,
         slip: take_slip,
     };
@@ -213,15 +214,17 @@ impl<R: Wait + Copy + Send> Mailboxes for Slipping<R> {
         resident: ResidentNo,
         room: u32,
     ) -> Result<(SlippingPut<OfferNote, R>, SlippingTake<OfferNote, R>), MailFault> {
-        let (mut put, mut take) = (None, None);
+        let (mut put_slip, mut take_slip) = (None, None);
         for slip in &self.slips {
             match slip {
-                Slip::Offer(at, call, slip) if *at == resident => put = Some((*call, *slip)),
-                Slip::Take(at, call, slip) if *at == resident => take = Some((*call, *slip)),
+                Slip::Offer(slip_resident, call, kind) if *slip_resident == resident => put_slip =
+                    Some((*call, *kind)),
+                Slip::Take(slip_resident, call, kind) if *slip_resident == resident => take_slip =
+                    Some((*call, *kind)),
                 _ => {}
             }
         }
-        ends_of(self.rt, alloc, room, put, take)
+        ends_of(self.rt, alloc, room, put_slip, take_slip)
     }
 
     fn open_answers(
@@ -230,14 +233,16 @@ impl<R: Wait + Copy + Send> Mailboxes for Slipping<R> {
         programme: ProgrammeNo,
         room: u32,
     ) -> Result<(SlippingPut<AnswerNote, R>, SlippingTake<AnswerNote, R>), MailFault> {
-        let (mut put, mut take) = (None, None);
+        let (mut put_slip, mut take_slip) = (None, None);
         for slip in &self.slips {
             match slip {
-                Slip::Answer(at, call, slip) if *at == programme => put = Some((*call, *slip)),
-                Slip::Hear(at, call, slip) if *at == programme => take = Some((*call, *slip)),
+                Slip::Answer(slip_programme, call, kind) if *slip_programme == programme =>
+                    put_slip = Some((*call, *kind)),
+                Slip::Hear(slip_programme, call, kind) if *slip_programme == programme =>
+                    take_slip = Some((*call, *kind)),
                 _ => {}
             }
         }
-        ends_of(self.rt, alloc, room, put, take)
+        ends_of(self.rt, alloc, room, put_slip, take_slip)
     }
 }

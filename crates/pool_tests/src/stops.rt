@@ -13,12 +13,12 @@ use std::thread::Threads;
 use test_gates::gates::StopsFrom;
 use test_support::markets::made_chain;
 
-// The offers that the journal has for a resident; only those that the resident took, if `taken` is set.
+// The offers that the journal has for a resident; only those that the resident took, if `only_taken` is set.
 fn offers_of(
     alloc: Global,
     journal: &[Event],
-    whose: ResidentNo,
-    taken: bool,
+    of_resident: ResidentNo,
+    only_taken: bool,
 ) -> Result<Vec<OfferNote>, AllocError> {
     let mut offers = Vec::new(alloc);
     for event in journal {
@@ -26,11 +26,11 @@ fn offers_of(
             Event::Offer {
                 programme,
                 resident,
-            } if !taken && resident == whose => programme,
+            } if !only_taken && resident == of_resident => programme,
             Event::Take {
                 resident,
                 programme,
-            } if taken && resident == whose => programme,
+            } if only_taken && resident == of_resident => programme,
             _ => continue,
         };
         offers.push(OfferNote { programme })?;
@@ -38,12 +38,12 @@ fn offers_of(
     Ok(offers)
 }
 
-// The answers that the journal has for a programme; only those that the programme heard, if `heard` is set.
+// The answers that the journal has for a programme; only those that the programme heard, if `only_heard` is set.
 fn answers_of(
     alloc: Global,
     journal: &[Event],
-    whose: ProgrammeNo,
-    heard: bool,
+    of_programme: ProgrammeNo,
+    only_heard: bool,
 ) -> Result<Vec<AnswerNote>, AllocError> {
     let mut answers = Vec::new(alloc);
     for event in journal {
@@ -52,12 +52,12 @@ fn answers_of(
                 resident,
                 programme,
                 kind,
-            } if !heard && programme == whose => (resident, kind),
+            } if !only_heard && programme == of_programme => (resident, kind),
             Event::Hear {
                 programme,
                 resident,
                 kind,
-            } if heard && programme == whose => (resident, kind),
+            } if only_heard && programme == of_programme => (resident, kind),
             _ => continue,
         };
         answers.push(AnswerNote { resident, kind })?;
@@ -67,12 +67,12 @@ fn answers_of(
 
 // Takes the messages that still wait in a mailbox, and appends them to those that were taken before, up to this
 // number.
-fn take_the_rest<M: Copy, T: TakeEnd<M> + Drop>(
+fn take_waiting_messages<M: Copy, T: TakeEnd<M> + Drop>(
     messages: &mut Vec<M>,
     mut end: T,
-    most: usize,
+    most_messages: usize,
 ) -> Result<(), AllocError> {
-    for _ in 0..most {
+    for _ in 0..most_messages {
         let TakeReply::Got(message) = end.take() else {
             break;
         };
@@ -83,34 +83,34 @@ fn take_the_rest<M: Copy, T: TakeEnd<M> + Drop>(
 
 // Whether a resident's log has exactly the resident's takes of the journal, and the waiting messages are exactly the
 // other offers to the resident.
-fn is_residents_own<T: TakeEnd<OfferNote> + Drop>(
+fn resident_agrees<T: TakeEnd<OfferNote> + Drop>(
     alloc: Global,
     journal: &[Event],
     resident: ResidentNo,
     agent: ResidentAgent<T>,
 ) -> Result<bool, AllocError> {
     let mut messages = Vec::from_slice(alloc, agent.taken_log())?;
-    let is_log = messages == offers_of(alloc, journal, resident, true)?;
-    take_the_rest(&mut messages, agent.into_end(), journal.len())?;
-    Ok(is_log && messages == offers_of(alloc, journal, resident, false)?)
+    let log_agrees = messages == offers_of(alloc, journal, resident, true)?;
+    take_waiting_messages(&mut messages, agent.into_end(), journal.len())?;
+    Ok(log_agrees && messages == offers_of(alloc, journal, resident, false)?)
 }
 
 // Whether a programme's log has exactly the programme's hears of the journal, and the waiting messages are exactly the
 // other answers to the programme.
-fn is_programmes_own<T: TakeEnd<AnswerNote> + Drop>(
+fn programme_agrees<T: TakeEnd<AnswerNote> + Drop>(
     alloc: Global,
     journal: &[Event],
     programme: ProgrammeNo,
     agent: ProgrammeAgent<T>,
 ) -> Result<bool, AllocError> {
     let mut messages = Vec::from_slice(alloc, agent.heard_log())?;
-    let is_log = messages == answers_of(alloc, journal, programme, true)?;
-    take_the_rest(&mut messages, agent.into_end(), journal.len())?;
-    Ok(is_log && messages == answers_of(alloc, journal, programme, false)?)
+    let log_agrees = messages == answers_of(alloc, journal, programme, true)?;
+    take_waiting_messages(&mut messages, agent.into_end(), journal.len())?;
+    Ok(log_agrees && messages == answers_of(alloc, journal, programme, false)?)
 }
 
 // Whether a replay of the journal finds a closed exchange if the run closed, and else the fault `NotClosed`.
-fn is_found(
+fn replay_finds_ending(
     alloc: Global,
     inst: &Instance,
     cap: Capacity,
@@ -125,14 +125,14 @@ fn is_found(
 }
 
 // Whether each resident's log and mailbox agree with the journal.
-fn are_residents_own<T: TakeEnd<OfferNote> + Drop>(
+fn residents_agree<T: TakeEnd<OfferNote> + Drop>(
     alloc: Global,
     journal: &[Event],
     agents: Vec<ResidentAgent<T>>,
 ) -> Result<bool, AllocError> {
     let mut resident = ResidentNo(0);
     for agent in agents {
-        if !is_residents_own(alloc, journal, resident, agent)? {
+        if !resident_agrees(alloc, journal, resident, agent)? {
             return Ok(false);
         }
         resident = ResidentNo(resident.0.saturating_add(1));
@@ -141,14 +141,14 @@ fn are_residents_own<T: TakeEnd<OfferNote> + Drop>(
 }
 
 // Whether each programme's log and mailbox agree with the journal.
-fn are_programmes_own<T: TakeEnd<AnswerNote> + Drop>(
+fn programmes_agree<T: TakeEnd<AnswerNote> + Drop>(
     alloc: Global,
     journal: &[Event],
     agents: Vec<ProgrammeAgent<T>>,
 ) -> Result<bool, AllocError> {
     let mut programme = ProgrammeNo(0);
     for agent in agents {
-        if !is_programmes_own(alloc, journal, programme, agent)? {
+        if !programme_agrees(alloc, journal, programme, agent)? {
             return Ok(false);
         }
         programme = ProgrammeNo(programme.0.saturating_add(1));
@@ -157,11 +157,11 @@ fn are_programmes_own<T: TakeEnd<AnswerNote> + Drop>(
 }
 
 // Whether all logs and mailboxes of a run agree with its journal, and a replay finds that the run ended as reported.
-fn is_its_journal<M: Mailboxes>(
+fn agrees_with_journal<M: Mailboxes>(
     alloc: Global,
     inst: &Instance,
     cap: Capacity,
-    done: Done<M>,
+    finished_run: Done<M>,
 ) -> Result<bool, AllocError> {
     let Done {
         ending,
@@ -170,7 +170,7 @@ fn is_its_journal<M: Mailboxes>(
         assignment: _,
         entered: _,
         ends,
-    } = done;
+    } = finished_run;
     let Ends {
         offer_puts: _offer_puts,
         residents,
@@ -178,9 +178,9 @@ fn is_its_journal<M: Mailboxes>(
         programmes,
     } = ends;
     Ok(
-        is_found(alloc, inst, cap, &journal, ending)
-            && are_residents_own(alloc, &journal, residents)?
-            && are_programmes_own(alloc, &journal, programmes)?,
+        replay_finds_ending(alloc, inst, cap, &journal, ending)
+            && residents_agree(alloc, &journal, residents)?
+            && programmes_agree(alloc, &journal, programmes)?,
     )
 }
 
@@ -194,7 +194,7 @@ fn stops_well<R: Threads + Wait + Sync + Send + Copy>(
     first_pass: u64,
 ) -> bool {
     match run(rt, alloc, inst, cap, 2, &StopsFrom::new(first_pass)) {
-        Ok(done) => is_its_journal(alloc, inst, cap, done) == Ok(true),
+        Ok(finished_run) => agrees_with_journal(alloc, inst, cap, finished_run) == Ok(true),
         Err(_) => false,
     }
 }

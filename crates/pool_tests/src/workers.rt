@@ -13,13 +13,13 @@ use test_support::instances::{Members, TWO_PLACES, has_places};
 // Whether each event of a run has a worker, and each worker has as many events as the run reports.
 fn is_counted(outcome: &Outcome, workers: usize) -> bool {
     for (worker, entered) in outcome.entered.iter().enumerate() {
-        let mut events = 0_u64;
-        for of in &outcome.who {
-            if usize::from(*of) == worker {
-                events = events.saturating_add(1);
+        let mut worker_events = 0_u64;
+        for by_worker in &outcome.who {
+            if usize::from(*by_worker) == worker {
+                worker_events = worker_events.saturating_add(1);
             }
         }
-        if events != *entered {
+        if worker_events != *entered {
             return false;
         }
     }

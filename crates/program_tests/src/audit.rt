@@ -1,8 +1,8 @@
 //! Audits of sheets. Some of the sheets were made before a member withdrew.
 use crate::commands::{serves, serves_both};
 use crate::texts::{
-    FULL, ONE_SIDED, OTHER_SHEET, QUOTAS, QUOTAS_SHEET, SMALL, SMALL_JOURNAL, SMALL_SHEET,
-    UNLISTED, VERSION_2,
+    FULL_CAPACITY, ONE_SIDED_DOCKET, OTHER_SHEET, QUOTAS_DOCKET, QUOTAS_SHEET, SMALL_DOCKET,
+    SMALL_JOURNAL, SMALL_SHEET, UNLISTED_MEMBERS, VERSION_2,
 };
 use residency::{Order, Status};
 use std::test::Fail;
@@ -12,7 +12,7 @@ fn audits(rt: HostRuntime) -> Result<(), Fail> {
     let cases: [(&[&str], Status, &str, u8); 5] = [
         (&[], Status::Stable, "S,stable\n", 0),
         (
-            &[SMALL, FULL, SMALL_JOURNAL, OTHER_SHEET],
+            &[SMALL_DOCKET, FULL_CAPACITY, SMALL_JOURNAL, OTHER_SHEET],
             Status::Stable,
             "S,stable\n",
             0,
@@ -24,20 +24,20 @@ fn audits(rt: HostRuntime) -> Result<(), Fail> {
             4,
         ),
         (
-            &[SMALL, "M,x,a\nM,y,a\nF,a,2,1\nF,b,0,1\n"],
+            &[SMALL_DOCKET, "M,x,a\nM,y,a\nF,a,2,1\nF,b,0,1\n"],
             Status::Unstable,
             "S,unstable\nO,a,2,1\nB,x,b\n",
             4,
         ),
         (
-            &[ONE_SIDED, "M,x,a\nF,a,1,1\n"],
+            &[ONE_SIDED_DOCKET, "M,x,a\nF,a,1,1\n"],
             Status::Unstable,
             "S,unstable\nX,x,a\n",
             4,
         ),
     ];
-    for (texts, status, report, exit) in cases {
-        let expected = (Ok(status), report, exit);
+    for (texts, status, report, exit_code) in cases {
+        let expected = (Ok(status), report, exit_code);
         assert!(rt;
             serves_both(rt, rt.alloc(), Order::Audit, texts, expected)?,
             "{report}"
@@ -49,13 +49,13 @@ fn audits(rt: HostRuntime) -> Result<(), Fail> {
 // Sheets that were made before a member withdrew, each with its report.
 const AUDITS: [(&[&str], Status, &str, u8); 4] = [
     (
-        &[VERSION_2, SMALL, "W,R,x\n", SMALL_SHEET],
+        &[VERSION_2, SMALL_DOCKET, "W,R,x\n", SMALL_SHEET],
         Status::Unstable,
         "S,unstable\nX,x,a\nB,y,a\n",
         4,
     ),
     (
-        &[VERSION_2, QUOTAS, "W,P,b\n", QUOTAS_SHEET],
+        &[VERSION_2, QUOTAS_DOCKET, "W,P,b\n", QUOTAS_SHEET],
         Status::Unstable,
         "S,unstable\nX,x,b\nB,x,a\n",
         4,
@@ -63,10 +63,10 @@ const AUDITS: [(&[&str], Status, &str, u8); 4] = [
     (
         &[
             VERSION_2,
-            SMALL,
+            SMALL_DOCKET,
             SMALL_SHEET,
             "U,z\nF,c,0,1\n",
-            UNLISTED,
+            UNLISTED_MEMBERS,
             "W,R,z\nW,P,c\n",
         ],
         Status::Stable,
@@ -76,7 +76,7 @@ const AUDITS: [(&[&str], Status, &str, u8); 4] = [
     (
         &[
             VERSION_2,
-            QUOTAS,
+            QUOTAS_DOCKET,
             "W,P,b\nM,x,a\nM,y,a\nU,z\nF,a,2,2\nF,b,0,1\n",
         ],
         Status::Stable,
@@ -87,8 +87,8 @@ const AUDITS: [(&[&str], Status, &str, u8); 4] = [
 
 #[test]
 fn audits_of_old_sheets(rt: HostRuntime) -> Result<(), Fail> {
-    for (texts, status, report, exit) in AUDITS {
-        let expected = (Ok(status), report, exit);
+    for (texts, status, report, exit_code) in AUDITS {
+        let expected = (Ok(status), report, exit_code);
         assert!(rt;
             serves(rt, rt.alloc(), Order::Audit, texts, expected)?,
             "{report}"

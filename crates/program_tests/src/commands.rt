@@ -1,5 +1,5 @@
 //! The program's commands over texts, and their answers.
-use crate::texts::{VERSION_2, further, joined};
+use crate::texts::{VERSION_2, joined, one_record_further};
 use exchange_core::Capacity;
 use match_pool::OpenGate;
 use residency::{
@@ -18,19 +18,19 @@ pub(super) const MATCH: Order = Order::Match(MatchOptions {
     journal: JournalForm::Absent,
 });
 
-pub(super) const NARROW: Order = Order::Match(MatchOptions {
+pub(super) const NARROW_MATCH: Order = Order::Match(MatchOptions {
     workers: 2,
     capacity: Capacity::Each(1),
     journal: JournalForm::Absent,
 });
 
-pub(super) const NARROW_WITH_JOURNAL: Order = Order::Match(MatchOptions {
+pub(super) const NARROW_MATCH_WITH_JOURNAL: Order = Order::Match(MatchOptions {
     workers: 2,
     capacity: Capacity::Each(1),
     journal: JournalForm::Plain,
 });
 
-pub(super) const WITH_JOURNAL: Order = Order::Match(MatchOptions {
+pub(super) const MATCH_WITH_JOURNAL: Order = Order::Match(MatchOptions {
     workers: 2,
     capacity: Capacity::Full,
     journal: JournalForm::Plain,
@@ -57,26 +57,30 @@ pub(super) fn serves<H: Threads + Wait + RandomSource + Sync + Send + Copy>(
     texts: &[&str],
     expected: (Result<Status, ServeFault>, &str, u8),
 ) -> Result<bool, AllocError> {
-    let (wanted, text, exit) = expected;
+    let (wanted_answer, wanted_text, wanted_exit) = expected;
     let input = joined(alloc, texts)?;
     let mut output = Vec::new(alloc);
     let answer = serve(rt, alloc, order, input.as_bytes(), &mut output);
-    Ok(answer == wanted && output.as_slice() == text.as_bytes() && exit_status(&answer) == exit)
+    Ok(
+        answer == wanted_answer
+            && output.as_slice() == wanted_text.as_bytes()
+            && exit_status(&answer) == wanted_exit,
+    )
 }
 
 // Whether an answer is the expected answer, except that the number of the record at fault is one
 // higher.
-fn is_further(
+fn is_one_record_further(
     alloc: Global,
     answer: &Result<Status, ServeFault>,
-    wanted: &Result<Status, ServeFault>,
+    wanted_answer: &Result<Status, ServeFault>,
 ) -> Result<bool, AllocError> {
-    match (answer, wanted) {
+    match (answer, wanted_answer) {
         (Err(fault), Err(wanted_fault)) => {
-            let wanted_text = further(alloc, wanted_fault.to_string(alloc)?.as_str())?;
+            let wanted_text = one_record_further(alloc, wanted_fault.to_string(alloc)?.as_str())?;
             Ok(fault.to_string(alloc)?.as_str() == wanted_text.as_str())
         }
-        _ => Ok(answer == wanted),
+        _ => Ok(answer == wanted_answer),
     }
 }
 
@@ -89,13 +93,21 @@ pub(super) fn serves_both<H: Threads + Wait + RandomSource + Sync + Send + Copy>
     texts: &[&str],
     expected: (Result<Status, ServeFault>, &str, u8),
 ) -> Result<bool, AllocError> {
-    let (wanted, text, exit) = expected;
+    let (wanted_answer, wanted_text, wanted_exit) = expected;
     let version_1 = joined(alloc, texts)?;
     let version_2 = joined(alloc, &[VERSION_2, version_1.as_str()])?;
     let mut output = Vec::new(alloc);
     let answer = serve(rt, alloc, order, version_2.as_bytes(), &mut output);
-    let serves_version_2 = is_further(alloc, &answer, &wanted)?
-        && output.as_slice() == text.as_bytes()
-        && exit_status(&answer) == exit;
-    Ok(serves(rt, alloc, order, texts, (wanted, text, exit))? && serves_version_2)
+    let serves_version_2 = is_one_record_further(alloc, &answer, &wanted_answer)?
+        && output.as_slice() == wanted_text.as_bytes()
+        && exit_status(&answer) == wanted_exit;
+    Ok(
+        serves(
+            rt,
+            alloc,
+            order,
+            texts,
+            (wanted_answer, wanted_text, wanted_exit),
+        )? && serves_version_2,
+    )
 }

@@ -2,7 +2,7 @@
 pub(super) mod broken;
 
 use crate::commands::{MATCH, serve};
-use crate::texts::{FULL, SMALL, SMALL_JOURNAL, SMALL_SHEET, VERSION_2, joined};
+use crate::texts::{FULL_CAPACITY, SMALL_DOCKET, SMALL_JOURNAL, SMALL_SHEET, VERSION_2, joined};
 use broken::{CutReader, CutWriter, InterruptedReader};
 use docket::DocketFault;
 use residency::{Order, ServeFault, Status, exit_status, serve_audit};
@@ -21,13 +21,13 @@ const ORDERS: [(Order, Status, &str); 3] = [
     (Order::Replay, Status::ReplayGood, "G,9\n"),
 ];
 
-// Whether a command reports that the reader fails after `cut` bytes, names this record, and writes nothing.
+// Whether a command reports that the reader fails after `good_bytes` bytes, names this record, and writes nothing.
 fn tells_of_cut<H: Threads + Wait + RandomSource + Sync + Send + Copy>(
     rt: H,
     alloc: Global,
     order: Order,
     text: &str,
-    cut: usize,
+    good_bytes: usize,
     place: u32,
 ) -> bool {
     let mut output = Vec::new(alloc);
@@ -35,7 +35,7 @@ fn tells_of_cut<H: Threads + Wait + RandomSource + Sync + Send + Copy>(
         rt,
         alloc,
         order,
-        CutReader::new(text.as_bytes(), cut),
+        CutReader::new(text.as_bytes(), good_bytes),
         &mut output,
     );
     answer == Err(ServeFault::Docket(DocketFault::Read { place }))
@@ -44,16 +44,16 @@ fn tells_of_cut<H: Threads + Wait + RandomSource + Sync + Send + Copy>(
 }
 
 // The first number of bytes after which the reader fails and the command doesn't report it.
-fn first_untold_cut<H: Threads + Wait + RandomSource + Sync + Send + Copy>(
+fn first_unreported_cut<H: Threads + Wait + RandomSource + Sync + Send + Copy>(
     rt: H,
     alloc: Global,
     order: Order,
     text: &str,
 ) -> Option<usize> {
     let mut place = 1;
-    for (cut, byte) in text.as_bytes().iter().enumerate() {
-        if !tells_of_cut(rt, alloc, order, text, cut, place) {
-            return Some(cut);
+    for (good_bytes, byte) in text.as_bytes().iter().enumerate() {
+        if !tells_of_cut(rt, alloc, order, text, good_bytes, place) {
+            return Some(good_bytes);
         }
         if *byte == b'\n' {
             place = place.saturating_add(1);
@@ -69,11 +69,14 @@ fn first_untold_cut<H: Threads + Wait + RandomSource + Sync + Send + Copy>(
 #[test]
 fn tells_of_broken_readers(rt: HostRuntime) -> Result<(), Fail> {
     let alloc = rt.alloc();
-    let version_1 = joined(alloc, &[SMALL, FULL, SMALL_JOURNAL, SMALL_SHEET])?;
+    let version_1 = joined(
+        alloc,
+        &[SMALL_DOCKET, FULL_CAPACITY, SMALL_JOURNAL, SMALL_SHEET],
+    )?;
     let version_2 = joined(alloc, &[VERSION_2, version_1.as_str()])?;
     for text in [version_1.as_str(), version_2.as_str()] {
         for (order, status, _) in ORDERS {
-            assert!(rt; first_untold_cut(rt, alloc, order, text) == None);
+            assert!(rt; first_unreported_cut(rt, alloc, order, text) == None);
             let reader = CutReader::new(text.as_bytes(), usize::MAX);
             let mut output = Vec::new(alloc);
             assert!(rt; serve(rt, alloc, order, reader, &mut output) == Ok(status));
@@ -89,14 +92,14 @@ fn tells_of_cut_output<H: Threads + Wait + RandomSource + Sync + Send + Copy>(
     alloc: Global,
     order: Order,
     input: &str,
-    text: &str,
+    wanted_output: &str,
     good_calls: usize,
 ) -> bool {
     let mut writer = CutWriter::new(Vec::new(alloc), good_calls);
     let answer = serve(rt, alloc, order, input.as_bytes(), &mut writer);
     answer == Err(ServeFault::Docket(DocketFault::Write))
         && exit_status(&answer) == 1
-        && text.as_bytes().starts_with(writer.got())
+        && wanted_output.as_bytes().starts_with(writer.accepted())
 }
 
 // Whether a writer that accepts everything gets the whole text.
@@ -105,28 +108,41 @@ fn writes_all<H: Threads + Wait + RandomSource + Sync + Send + Copy>(
     alloc: Global,
     order: Order,
     input: &str,
-    text: &str,
-    wanted: Status,
+    wanted_output: &str,
+    wanted_status: Status,
     good_calls: usize,
 ) -> bool {
     let mut writer = CutWriter::new(Vec::new(alloc), good_calls);
-    serve(rt, alloc, order, input.as_bytes(), &mut writer) == Ok(wanted)
-        && writer.got() == text.as_bytes()
+    serve(rt, alloc, order, input.as_bytes(), &mut writer) == Ok(wanted_status)
+        && writer.accepted() == wanted_output.as_bytes()
 }
 
 #[test]
 fn tells_of_broken_writers(rt: HostRuntime) -> Result<(), Fail> {
     let alloc = rt.alloc();
-    let input = joined(alloc, &[SMALL, FULL, SMALL_JOURNAL, SMALL_SHEET])?;
-    for (order, status, text) in ORDERS {
-        let calls = text.len().div_ceil(3);
-        for good_calls in 0..calls {
+    let input = joined(
+        alloc,
+        &[SMALL_DOCKET, FULL_CAPACITY, SMALL_JOURNAL, SMALL_SHEET],
+    )?;
+    for (order, status, wanted_output) in ORDERS {
+        let call_count = wanted_output.len().div_ceil(3);
+        for good_calls in 0..call_count {
             assert!(rt;
-                tells_of_cut_output(rt, alloc, order, input.as_str(), text, good_calls),
+                tells_of_cut_output(rt, alloc, order, input.as_str(), wanted_output, good_calls),
                 "{good_calls}"
             );
         }
-        assert!(rt; writes_all(rt, alloc, order, input.as_str(), text, status, calls));
+        assert!(rt;
+            writes_all(
+                rt,
+                alloc,
+                order,
+                input.as_str(),
+                wanted_output,
+                status,
+                call_count
+            )
+        );
     }
     Ok(())
 }
@@ -135,14 +151,18 @@ fn tells_of_broken_writers(rt: HostRuntime) -> Result<(), Fail> {
 #[test]
 fn tells_of_a_reader_that_would_block(rt: HostRuntime) -> Result<(), Fail> {
     let alloc = rt.alloc();
-    let stable = joined(alloc, &[SMALL, SMALL_SHEET])?;
-    for (cut, place) in [(0, 1), (stable.len(), 11)] {
-        let reader = CutReader::failing(stable.as_bytes(), cut, io::ErrorKind::WouldBlock);
+    let stable_docket = joined(alloc, &[SMALL_DOCKET, SMALL_SHEET])?;
+    for (good_bytes, place) in [(0, 1), (stable_docket.len(), 11)] {
+        let reader = CutReader::failing(
+            stable_docket.as_bytes(),
+            good_bytes,
+            io::ErrorKind::WouldBlock,
+        );
         let mut output = Vec::new(alloc);
         let answer = serve_audit(&OneByte(7), alloc, reader, &mut output);
         assert!(rt;
             answer == Err(ServeFault::Docket(DocketFault::Read { place })) && output.is_empty(),
-            "{cut}"
+            "{good_bytes}"
         );
     }
     Ok(())
@@ -154,25 +174,25 @@ const UNKNOWN_KIND: &str = "Q,a,1\nZ,b\n";
 fn audit(
     alloc: Global,
     text: &str,
-    every: usize,
+    interval: usize,
     output: &mut Vec<u8>,
 ) -> Result<Status, ServeFault> {
-    let reader = InterruptedReader::new(text.as_bytes(), every);
+    let reader = InterruptedReader::new(text.as_bytes(), interval);
     serve_audit(&OneByte(7), alloc, reader, output)
 }
 
 #[test]
 fn reads_on_after_an_interruption(rt: HostRuntime) -> Result<(), Fail> {
-    let stable = joined(rt.alloc(), &[SMALL, SMALL_SHEET])?;
-    let unknown = ServeFault::Docket(DocketFault::UnknownKind { place: 2 });
+    let stable_docket = joined(rt.alloc(), &[SMALL_DOCKET, SMALL_SHEET])?;
+    let unknown_kind = ServeFault::Docket(DocketFault::UnknownKind { place: 2 });
     let cases = [
-        (stable.as_str(), Ok(Status::Stable), "S,stable\n"),
-        (UNKNOWN_KIND, Err(unknown), ""),
+        (stable_docket.as_str(), Ok(Status::Stable), "S,stable\n"),
+        (UNKNOWN_KIND, Err(unknown_kind), ""),
     ];
-    for (text, wanted, report) in cases {
-        for every in [1, 2, 7] {
+    for (docket_text, wanted, report) in cases {
+        for interval in [1, 2, 7] {
             let mut output = Vec::new(rt.alloc());
-            let answer = audit(rt.alloc(), text, every, &mut output);
+            let answer = audit(rt.alloc(), docket_text, interval, &mut output);
             assert!(rt;
                 answer == wanted && output.as_slice() == report.as_bytes(),
                 "{report}"

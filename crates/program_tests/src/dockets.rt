@@ -10,7 +10,7 @@ mod whole;
 mod writing;
 
 use crate::devices::broken::CutReader;
-use crate::texts::{further, joined};
+use crate::texts::{joined, one_record_further};
 use docket::{Docket, DocketFault, capacity_of, read_docket};
 use exchange_core::Capacity;
 use std::alloc::{AllocError, Global};
@@ -21,14 +21,18 @@ fn read(alloc: Global, input: &str) -> Result<Docket, DocketFault> {
     read_docket(&OneByte(7), alloc, input.as_bytes())
 }
 
-/// Reads a docket byte by byte, with a reader that fails after `cut` bytes.
-fn read_slowly(alloc: Global, input: &str, cut: usize) -> Result<Docket, DocketFault> {
-    read_docket(&OneByte(7), alloc, CutReader::new(input.as_bytes(), cut))
+/// Reads a docket byte by byte, with a reader that fails after `good_bytes` bytes.
+fn read_slowly(alloc: Global, input: &str, good_bytes: usize) -> Result<Docket, DocketFault> {
+    read_docket(
+        &OneByte(7),
+        alloc,
+        CutReader::new(input.as_bytes(), good_bytes),
+    )
 }
 
 /// Whether reading a docket ended as expected: with a fault of this text, or without a fault if the text
 /// is `read`.
-fn is_told(
+fn has_outcome(
     alloc: Global,
     answer: Result<Docket, DocketFault>,
     wanted: &str,
@@ -40,44 +44,44 @@ fn is_told(
 }
 
 /// Whether reading the docket in these texts, one after another, ends as expected.
-fn tells(alloc: Global, texts: &[&str], wanted: &str) -> Result<bool, AllocError> {
+fn reads_as(alloc: Global, texts: &[&str], wanted: &str) -> Result<bool, AllocError> {
     let text = joined(alloc, texts)?;
-    is_told(alloc, read(alloc, text.as_str()), wanted)
+    has_outcome(alloc, read(alloc, text.as_str()), wanted)
 }
 
 /// Whether reading a docket ends as expected, with a reader that gives all bytes at once and with a slow reader. Spaces
 /// separate the records of the docket.
-fn tells_both(alloc: Global, records: &str, wanted: &str) -> Result<bool, AllocError> {
+fn reads_both_ways_as(alloc: Global, records: &str, wanted: &str) -> Result<bool, AllocError> {
     let mut input = records.replace(alloc, " ", "\n")?;
     input.push_str("\n")?;
-    let at_once = is_told(alloc, read(alloc, input.as_str()), wanted)?;
-    let slowly = is_told(
+    let reads_at_once = has_outcome(alloc, read(alloc, input.as_str()), wanted)?;
+    let reads_slowly = has_outcome(
         alloc,
         read_slowly(alloc, input.as_str(), usize::MAX),
         wanted,
     )?;
-    Ok(at_once && slowly)
+    Ok(reads_at_once && reads_slowly)
 }
 
 /// The first line whose docket isn't read as the line says, by a reader that gives all bytes at once or by a slow
 /// reader.
 ///
 /// Spaces separate the records in a line, and the expected outcome stands after ` = `.
-fn first_wrong<'a>(alloc: Global, lines: &'a str) -> Result<Option<&'a str>, AllocError> {
+fn first_wrong_line<'a>(alloc: Global, lines: &'a str) -> Result<Option<&'a str>, AllocError> {
     for line in lines.lines() {
         let Some((records, wanted)) = line.split_once(" = ") else {
             return Ok(Some(line));
         };
-        if !tells_both(alloc, records, wanted)? {
+        if !reads_both_ways_as(alloc, records, wanted)? {
             return Ok(Some(line));
         }
     }
     Ok(None)
 }
 
-/// Does what `first_wrong` does, for the same records in dockets of version 2, where the number of each record is one
-/// higher.
-fn first_wrong_of_version_2<'a>(
+/// Does what `first_wrong_line` does, for the same records in dockets of version 2, where the number of each record is
+/// one higher.
+fn first_wrong_line_of_version_2<'a>(
     alloc: Global,
     lines: &'a str,
 ) -> Result<Option<&'a str>, AllocError> {
@@ -86,7 +90,11 @@ fn first_wrong_of_version_2<'a>(
             return Ok(Some(line));
         };
         let version_2 = joined(alloc, &["V,2 ", records])?;
-        if !tells_both(alloc, version_2.as_str(), further(alloc, wanted)?.as_str())? {
+        if !reads_both_ways_as(
+            alloc,
+            version_2.as_str(),
+            one_record_further(alloc, wanted)?.as_str(),
+        )? {
             return Ok(Some(line));
         }
     }

@@ -1,5 +1,5 @@
 //! Command lines, and the texts and exit statuses when the program refuses something.
-use crate::commands::{MATCH, NARROW_WITH_JOURNAL};
+use crate::commands::{MATCH, NARROW_MATCH_WITH_JOURNAL};
 use docket::DocketFault;
 use exchange_core::Capacity;
 use match_pool::RunFault;
@@ -36,19 +36,19 @@ fn tells_faults(rt: HostRuntime) -> Result<(), Fail> {
     assert!(rt; line_status(&LineFault::Memory) == 1);
     assert!(rt; exit_status(&Err(ServeFault::Memory)) == 1);
     assert!(rt; LineFault::BadCapacity.to_string(alloc)?.as_str() == "bad capacity");
-    let run = ServeFault::Run(RunFault::Thread);
-    assert!(rt; run.to_string(alloc)?.as_str() == "a worker could not be started");
-    assert!(rt; exit_status(&Err(run)) == 1);
+    let run_fault = ServeFault::Run(RunFault::Thread);
+    assert!(rt; run_fault.to_string(alloc)?.as_str() == "a worker could not be started");
+    assert!(rt; exit_status(&Err(run_fault)) == 1);
     Ok(())
 }
 
-const ALONE: Order = Order::Match(MatchOptions {
+const MATCH_BY_ONE: Order = Order::Match(MatchOptions {
     workers: 1,
     capacity: Capacity::Full,
     journal: JournalForm::Absent,
 });
 
-const BY_WORKER: Order = Order::Match(MatchOptions {
+const MATCH_WITH_WORKERS: Order = Order::Match(MatchOptions {
     workers: 2,
     capacity: Capacity::Full,
     journal: JournalForm::ByWorker,
@@ -68,21 +68,21 @@ const LINES: [(&[&str], Result<Order, u8>); 21] = [
     (&["match", "--workers", "2"], Ok(MATCH)),
     (
         &["match", "--capacity", "1", "--journal"],
-        Ok(NARROW_WITH_JOURNAL),
+        Ok(NARROW_MATCH_WITH_JOURNAL),
     ),
     (&["match", "--capacity", "0"], Err(2)),
     (&["match", "--capacity", "1025"], Err(2)),
-    (&["match", "--workers", "1"], Ok(ALONE)),
-    (&["match", "--workers", "+1"], Ok(ALONE)),
+    (&["match", "--workers", "1"], Ok(MATCH_BY_ONE)),
+    (&["match", "--workers", "+1"], Ok(MATCH_BY_ONE)),
     (&["match", "--workers", "0"], Err(2)),
-    (&["match", "--journal-by-worker"], Ok(BY_WORKER)),
+    (&["match", "--journal-by-worker"], Ok(MATCH_WITH_WORKERS)),
     (
         &["match", "--journal", "--journal-by-worker"],
-        Ok(BY_WORKER),
+        Ok(MATCH_WITH_WORKERS),
     ),
     (
         &["match", "--journal-by-worker", "--journal"],
-        Ok(BY_WORKER),
+        Ok(MATCH_WITH_WORKERS),
     ),
     (&["match", "--help"], Err(0)),
     (&["audit"], Ok(Order::Audit)),

@@ -1,61 +1,61 @@
 //! Dockets whose rows are computed.
 use std::alloc::{AllocError, Global};
 
-/// Adds `start`, a number and `end`.
+/// Adds `prefix`, a number and `suffix`.
 pub(super) fn push_numbered(
     text: &mut String,
     alloc: Global,
-    start: &str,
-    n: u32,
-    end: &str,
+    prefix: &str,
+    number: u32,
+    suffix: &str,
 ) -> Result<(), AllocError> {
-    text.push_str(start)?;
-    text.push_str(n.to_string(alloc)?.as_str())?;
-    text.push_str(end)
+    text.push_str(prefix)?;
+    text.push_str(number.to_string(alloc)?.as_str())?;
+    text.push_str(suffix)
 }
 
-/// Adds `start`, a number and `end` for each number below `count`.
-pub(super) fn push_all(
+/// Adds `prefix`, a number and `suffix` for each number below `bound`.
+pub(super) fn push_all_numbered(
     text: &mut String,
     alloc: Global,
-    start: &str,
-    count: u32,
-    end: &str,
+    prefix: &str,
+    bound: u32,
+    suffix: &str,
 ) -> Result<(), AllocError> {
-    for n in 0..count {
-        push_numbered(text, alloc, start, n, end)?;
+    for number in 0..bound {
+        push_numbered(text, alloc, prefix, number, suffix)?;
     }
     Ok(())
 }
 
 /// Adds the lists of ten programmes, each with all 20,000 residents.
 pub(super) fn push_lists(text: &mut String, alloc: Global) -> Result<(), AllocError> {
-    for p in 0..10u32 {
-        push_numbered(text, alloc, "P,p", p, "")?;
-        push_all(text, alloc, ",r", 20_000, "")?;
+    for programme in 0..10u32 {
+        push_numbered(text, alloc, "P,p", programme, "")?;
+        push_all_numbered(text, alloc, ",r", 20_000, "")?;
         text.push_str("\n")?;
     }
     Ok(())
 }
 
 // A way round a circle: the length of a step, the number of steps, and how many places the circle has.
-type Round = (u32, u32, u32);
+type CircleWalk = (u32, u32, u32);
 
-// Adds `start` and a number for each place that the steps reach. The steps begin at place `first`, and `base` is
-// added to each number.
-fn push_round(
+// Adds `prefix` and a number for each place that the steps reach. The steps begin at place `first_place`, and
+// `base_number` is added to each number.
+fn push_walk(
     text: &mut String,
     alloc: Global,
-    start: &str,
-    first: u32,
-    round: Round,
-    base: u32,
+    prefix: &str,
+    first_place: u32,
+    walk: CircleWalk,
+    base_number: u32,
 ) -> Result<(), AllocError> {
-    let (step, count, size) = round;
-    let mut n = first;
-    for _ in 0..count {
-        n = n.saturating_add(step) % size.max(1);
-        push_numbered(text, alloc, start, n.saturating_add(base), "")?;
+    let (step, step_count, circle_size) = walk;
+    let mut place = first_place;
+    for _ in 0..step_count {
+        place = place.saturating_add(step) % circle_size.max(1);
+        push_numbered(text, alloc, prefix, place.saturating_add(base_number), "")?;
     }
     Ok(())
 }
@@ -64,57 +64,72 @@ fn push_round(
 // the second all of a circle of twelve.
 const STEPS: [(u32, u32); 4] = [(3, 1), (7, 5), (11, 7), (13, 11)];
 
-// Adds the quota and the list of programme `p` of the docket `hundreds`.
-fn push_hundreds_programme(text: &mut String, alloc: Global, p: u32) -> Result<(), AllocError> {
-    let (step, _) = STEPS[(p % 4) as usize];
-    push_numbered(text, alloc, "Q,p", p, "")?;
-    push_numbered(text, alloc, ",", p % 4 + 1, "\n")?;
-    push_numbered(text, alloc, "P,p", p, "")?;
-    push_round(text, alloc, ",r", p, (step, 40, 40), 0)?;
+// Adds the quota and the list of programme `programme` of the docket `four_hundred_pairs`.
+fn push_hundreds_programme(
+    text: &mut String,
+    alloc: Global,
+    programme: u32,
+) -> Result<(), AllocError> {
+    let (step, _) = STEPS[(programme % 4) as usize];
+    push_numbered(text, alloc, "Q,p", programme, "")?;
+    push_numbered(text, alloc, ",", programme % 4 + 1, "\n")?;
+    push_numbered(text, alloc, "P,p", programme, "")?;
+    push_walk(text, alloc, ",r", programme, (step, 40, 40), 0)?;
     text.push_str("\n")
 }
 
-// Adds the list of resident `r` of the docket `hundreds`.
-fn push_hundreds_resident(text: &mut String, alloc: Global, r: u32) -> Result<(), AllocError> {
-    let (_, step) = STEPS[(r % 4) as usize];
-    push_numbered(text, alloc, "R,r", r, "")?;
-    push_round(text, alloc, ",p", r, (step, 10, 12), 0)?;
+// Adds the list of resident `resident` of the docket `four_hundred_pairs`.
+fn push_hundreds_resident(
+    text: &mut String,
+    alloc: Global,
+    resident: u32,
+) -> Result<(), AllocError> {
+    let (_, step) = STEPS[(resident % 4) as usize];
+    push_numbered(text, alloc, "R,r", resident, "")?;
+    push_walk(text, alloc, ",p", resident, (step, 10, 12), 0)?;
     text.push_str("\n")
 }
 
 /// Twelve programmes with one to four places, thirty in all. Each ranks all forty residents, and each resident ranks
 /// ten programmes: 400 pairs.
-pub(super) fn hundreds(alloc: Global) -> Result<String, AllocError> {
+pub(super) fn four_hundred_pairs(alloc: Global) -> Result<String, AllocError> {
     let mut text = String::new(alloc);
-    for p in 0..12u32 {
-        push_hundreds_programme(&mut text, alloc, p)?;
+    for programme in 0..12u32 {
+        push_hundreds_programme(&mut text, alloc, programme)?;
     }
-    for r in 0..40u32 {
-        push_hundreds_resident(&mut text, alloc, r)?;
+    for resident in 0..40u32 {
+        push_hundreds_resident(&mut text, alloc, resident)?;
     }
     Ok(text)
 }
 
-// Adds the list of programme `p` of the docket `widest`: ten residents of each 2,000.
-fn push_widest_list(text: &mut String, alloc: Global, p: u32) -> Result<(), AllocError> {
-    push_numbered(text, alloc, "P,p", p, "")?;
+// Adds the list of programme `programme` of the docket `widest_docket`: ten residents of each 2,000.
+fn push_widest_list(text: &mut String, alloc: Global, programme: u32) -> Result<(), AllocError> {
+    push_numbered(text, alloc, "P,p", programme, "")?;
     for thousands in 0..10u32 {
-        push_round(text, alloc, ",r", p, (1_801, 10, 2_000), thousands * 2_000)?;
+        push_walk(
+            text,
+            alloc,
+            ",r",
+            programme,
+            (1_801, 10, 2_000),
+            thousands * 2_000,
+        )?;
     }
     text.push_str("\n")
 }
 
 /// A docket with the greatest numbers of programmes, residents and pairs. Each of 2,000 programmes has ten places and
 /// ranks a hundred residents. Each of 20,000 residents ranks ten programmes, and all ranks are mutual.
-pub(super) fn widest(alloc: Global) -> Result<String, AllocError> {
+pub(super) fn widest_docket(alloc: Global) -> Result<String, AllocError> {
     let mut text = String::new(alloc);
-    push_all(&mut text, alloc, "Q,p", 2_000, ",10\n")?;
-    for p in 0..2_000u32 {
-        push_widest_list(&mut text, alloc, p)?;
+    push_all_numbered(&mut text, alloc, "Q,p", 2_000, ",10\n")?;
+    for programme in 0..2_000u32 {
+        push_widest_list(&mut text, alloc, programme)?;
     }
-    for r in 0..20_000u32 {
-        push_numbered(&mut text, alloc, "R,r", r, "")?;
-        push_round(&mut text, alloc, ",p", r, (199, 10, 2_000), 0)?;
+    for resident in 0..20_000u32 {
+        push_numbered(&mut text, alloc, "R,r", resident, "")?;
+        push_walk(&mut text, alloc, ",p", resident, (199, 10, 2_000), 0)?;
         text.push_str("\n")?;
     }
     Ok(text)
@@ -122,11 +137,11 @@ pub(super) fn widest(alloc: Global) -> Result<String, AllocError> {
 
 /// A docket of ten programmes with 2,000 places each, and 20,000 residents. Each member ranks the other side in the
 /// order of numbers.
-pub(super) fn in_one_order(alloc: Global) -> Result<String, AllocError> {
+pub(super) fn docket_in_one_order(alloc: Global) -> Result<String, AllocError> {
     let mut text = String::new(alloc);
-    push_all(&mut text, alloc, "Q,p", 10, ",2000\n")?;
+    push_all_numbered(&mut text, alloc, "Q,p", 10, ",2000\n")?;
     push_lists(&mut text, alloc)?;
-    push_all(
+    push_all_numbered(
         &mut text,
         alloc,
         "R,r",
@@ -136,14 +151,14 @@ pub(super) fn in_one_order(alloc: Global) -> Result<String, AllocError> {
     Ok(text)
 }
 
-/// The sheet of the docket `in_one_order`: the first 2,000 residents are at the first programme, the next 2,000 at the
-/// second, and so on.
+/// The sheet of the docket `docket_in_one_order`: the first 2,000 residents are at the first programme, the next 2,000
+/// at the second, and so on.
 pub(super) fn sheet_in_one_order(alloc: Global) -> Result<String, AllocError> {
     let mut text = String::new(alloc);
-    for r in 0..20_000u32 {
-        push_numbered(&mut text, alloc, "M,r", r, "")?;
-        push_numbered(&mut text, alloc, ",p", r / 2_000, "\n")?;
+    for resident in 0..20_000u32 {
+        push_numbered(&mut text, alloc, "M,r", resident, "")?;
+        push_numbered(&mut text, alloc, ",p", resident / 2_000, "\n")?;
     }
-    push_all(&mut text, alloc, "F,p", 10, ",2000,2000\n")?;
+    push_all_numbered(&mut text, alloc, "F,p", 10, ",2000,2000\n")?;
     Ok(text)
 }

@@ -3,10 +3,10 @@ mod journals;
 mod large;
 mod withdrawn;
 
-use crate::commands::{MATCH, NARROW, WITH_JOURNAL, serves, serves_both};
+use crate::commands::{MATCH, MATCH_WITH_JOURNAL, NARROW_MATCH, serves, serves_both};
 use crate::texts::{
-    CHAIN, FULL, ONE_SIDED, OTHER_SHEET, QUOTAS, QUOTAS_SHEET, SMALL, SMALL_JOURNAL, SMALL_SHEET,
-    THREE,
+    CHAIN_DOCKET, FULL_CAPACITY, ONE_SIDED_DOCKET, OTHER_SHEET, QUOTAS_DOCKET, QUOTAS_SHEET,
+    SMALL_DOCKET, SMALL_JOURNAL, SMALL_SHEET, THREE_RECORDS,
 };
 use exchange_core::Capacity;
 use match_pool::RunFault;
@@ -16,22 +16,28 @@ use std::test::Fail;
 #[test]
 fn matches(rt: HostRuntime) -> Result<(), Fail> {
     let cases: [(&[&str], &str); 10] = [
-        (&[SMALL], SMALL_SHEET),
+        (&[SMALL_DOCKET], SMALL_SHEET),
         // the small docket without its last byte
-        (&[THREE, "P,b,y,x\nR,x,b,a\nR,y,a,b"], SMALL_SHEET),
-        (&[QUOTAS], QUOTAS_SHEET),
+        (&[THREE_RECORDS, "P,b,y,x\nR,x,b,a\nR,y,a,b"], SMALL_SHEET),
+        (&[QUOTAS_DOCKET], QUOTAS_SHEET),
         (&[], ""),
         (
             &["Q,a,0\nQ,b,1\nP,a,x\nP,b,x\nR,x,a,b\n"],
             "M,x,b\nF,a,0,0\nF,b,1,1\n",
         ),
-        (&[ONE_SIDED], "U,x\nF,a,0,1\n"),
+        (&[ONE_SIDED_DOCKET], "U,x\nF,a,0,1\n"),
         (
             &["Q,a,2\nQ,b,1\nP,a,x\nP,b,x,y\nR,x,b,a\nR,y,b\n"],
             "M,x,b\nU,y\nF,a,0,2\nF,b,1,1\n",
         ),
-        (&[SMALL, FULL, SMALL_JOURNAL, OTHER_SHEET], SMALL_SHEET),
-        (&[CHAIN], "M,x,d\nF,a,0,1\nF,b,0,1\nF,c,0,1\nF,d,1,1\n"),
+        (
+            &[SMALL_DOCKET, FULL_CAPACITY, SMALL_JOURNAL, OTHER_SHEET],
+            SMALL_SHEET,
+        ),
+        (
+            &[CHAIN_DOCKET],
+            "M,x,d\nF,a,0,1\nF,b,0,1\nF,c,0,1\nF,d,1,1\n",
+        ),
         (
             &["Q,\"a\",1\r\nQ,b,1\r\n\r\nP,a,x,y\r\nP,b,y,x\r\nR,x,b,a\r\nR,y,a,b\r\n"],
             SMALL_SHEET,
@@ -49,10 +55,10 @@ fn matches(rt: HostRuntime) -> Result<(), Fail> {
 
 #[test]
 fn matches_through_narrow_mailboxes(rt: HostRuntime) -> Result<(), Fail> {
-    for (text, sheet) in [(QUOTAS, QUOTAS_SHEET), (SMALL, SMALL_SHEET)] {
+    for (text, sheet) in [(QUOTAS_DOCKET, QUOTAS_SHEET), (SMALL_DOCKET, SMALL_SHEET)] {
         let expected = (Ok(Status::Closed), sheet, 0);
         assert!(rt;
-            serves_both(rt, rt.alloc(), NARROW, &[text], expected)?,
+            serves_both(rt, rt.alloc(), NARROW_MATCH, &[text], expected)?,
             "{sheet}"
         );
     }
@@ -75,7 +81,7 @@ fn refuses_wrong_options(rt: HostRuntime) -> Result<(), Fail> {
         });
         let expected = (Err(ServeFault::Run(fault)), "", 1);
         assert!(rt;
-            serves(rt, rt.alloc(), order, &[SMALL], expected)?,
+            serves(rt, rt.alloc(), order, &[SMALL_DOCKET], expected)?,
             "{workers}"
         );
     }
@@ -85,11 +91,11 @@ fn refuses_wrong_options(rt: HostRuntime) -> Result<(), Fail> {
 #[test]
 fn writes_the_journal_of_nothing(rt: HostRuntime) -> Result<(), Fail> {
     let expected = (Ok(Status::Closed), "C,full\nE,close\n", 0);
-    assert!(rt; serves_both(rt, rt.alloc(), WITH_JOURNAL, &[], expected)?);
+    assert!(rt; serves_both(rt, rt.alloc(), MATCH_WITH_JOURNAL, &[], expected)?);
     Ok(())
 }
 
-const ALONE_BY_WORKER: Order = Order::Match(MatchOptions {
+const JOURNAL_BY_ONE_WORKER: Order = Order::Match(MatchOptions {
     workers: 1,
     capacity: Capacity::Full,
     journal: JournalForm::ByWorker,
@@ -98,6 +104,6 @@ const ALONE_BY_WORKER: Order = Order::Match(MatchOptions {
 #[test]
 fn writes_the_journal_of_nothing_by_worker(rt: HostRuntime) -> Result<(), Fail> {
     let expected = (Ok(Status::Closed), "C,full,1\nE,close,0\n", 0);
-    assert!(rt; serves(rt, rt.alloc(), ALONE_BY_WORKER, &[], expected)?);
+    assert!(rt; serves(rt, rt.alloc(), JOURNAL_BY_ONE_WORKER, &[], expected)?);
     Ok(())
 }

@@ -2,8 +2,9 @@
 //! withdrew.
 use crate::commands::{serves, serves_both};
 use crate::texts::{
-    CLOSE, EIGHT_BY_TWO, ELEVEN, FULL, OTHER_SHEET, QUOTAS, SMALL, SMALL_JOURNAL, SMALL_SHEET,
-    TO_EIGHTEEN, TO_THIRTEEN, UNLISTED, VERSION_2,
+    CLOSE_EVENT, EIGHT_EVENTS_BY_TWO, ELEVEN_EVENTS, EVENTS_TO_EIGHTEEN, EVENTS_TO_THIRTEEN,
+    FULL_CAPACITY, OTHER_SHEET, QUOTAS_DOCKET, SMALL_DOCKET, SMALL_JOURNAL, SMALL_SHEET,
+    UNLISTED_MEMBERS, VERSION_2,
 };
 use docket::DocketFault;
 use residency::{Order, ServeFault, Status};
@@ -14,16 +15,36 @@ use std::test::Fail;
 fn replays_good_journals(rt: HostRuntime) -> Result<(), Fail> {
     let cases: [(&[&str], &str); 5] = [
         (
-            &[QUOTAS, FULL, ELEVEN, TO_THIRTEEN, TO_EIGHTEEN, CLOSE],
+            &[
+                QUOTAS_DOCKET,
+                FULL_CAPACITY,
+                ELEVEN_EVENTS,
+                EVENTS_TO_THIRTEEN,
+                EVENTS_TO_EIGHTEEN,
+                CLOSE_EVENT,
+            ],
             "G,19\n",
         ),
         (
-            &[QUOTAS, "C,3\n", ELEVEN, TO_THIRTEEN, TO_EIGHTEEN, CLOSE],
+            &[
+                QUOTAS_DOCKET,
+                "C,3\n",
+                ELEVEN_EVENTS,
+                EVENTS_TO_THIRTEEN,
+                EVENTS_TO_EIGHTEEN,
+                CLOSE_EVENT,
+            ],
             "G,19\n",
         ),
-        (&[SMALL, FULL, SMALL_JOURNAL, SMALL_SHEET], "G,9\n"),
-        (&[SMALL, "C,1\n", SMALL_JOURNAL, SMALL_SHEET], "G,9\n"),
-        (&[SMALL, "C,1024\n", SMALL_JOURNAL], "G,9\n"),
+        (
+            &[SMALL_DOCKET, FULL_CAPACITY, SMALL_JOURNAL, SMALL_SHEET],
+            "G,9\n",
+        ),
+        (
+            &[SMALL_DOCKET, "C,1\n", SMALL_JOURNAL, SMALL_SHEET],
+            "G,9\n",
+        ),
+        (&[SMALL_DOCKET, "C,1024\n", SMALL_JOURNAL], "G,9\n"),
     ];
     for (texts, row) in cases {
         let expected = (Ok(Status::ReplayGood), row, 0);
@@ -37,65 +58,102 @@ fn replays_good_journals(rt: HostRuntime) -> Result<(), Fail> {
 
 // Journals that a replay refuses, each with the row of the fault.
 const REFUSED: [(&[&str], &str); 15] = [
-    (&[QUOTAS, FULL, "E,take,x,a\n"], "N,1,nothing-waiting\n"),
     (
-        &[QUOTAS, FULL, ELEVEN, TO_THIRTEEN, CLOSE],
+        &[QUOTAS_DOCKET, FULL_CAPACITY, "E,take,x,a\n"],
+        "N,1,nothing-waiting\n",
+    ),
+    (
+        &[
+            QUOTAS_DOCKET,
+            FULL_CAPACITY,
+            ELEVEN_EVENTS,
+            EVENTS_TO_THIRTEEN,
+            CLOSE_EVENT,
+        ],
         "N,14,still-pending,answers,a\n",
     ),
     (
-        &[QUOTAS, FULL, ELEVEN, "E,hear,a,x,release\n"],
+        &[
+            QUOTAS_DOCKET,
+            FULL_CAPACITY,
+            ELEVEN_EVENTS,
+            "E,hear,a,x,release\n",
+        ],
         "N,12,wrong-front\n",
     ),
     (
         &[
-            QUOTAS,
-            FULL,
-            ELEVEN,
-            TO_THIRTEEN,
-            TO_EIGHTEEN,
-            CLOSE,
+            QUOTAS_DOCKET,
+            FULL_CAPACITY,
+            ELEVEN_EVENTS,
+            EVENTS_TO_THIRTEEN,
+            EVENTS_TO_EIGHTEEN,
+            CLOSE_EVENT,
             "E,take,x,a\n",
         ],
         "N,20,closed\n",
     ),
     (
-        &[QUOTAS, "C,1\nE,offer,a,x\nE,offer,b,x\n"],
+        &[QUOTAS_DOCKET, "C,1\nE,offer,a,x\nE,offer,b,x\n"],
         "N,2,mailbox-full\n",
     ),
-    (&[QUOTAS, "C,2\n", ELEVEN], "N,10,mailbox-full\n"),
+    (
+        &[QUOTAS_DOCKET, "C,2\n", ELEVEN_EVENTS],
+        "N,10,mailbox-full\n",
+    ),
     (
         &[
-            QUOTAS,
-            FULL,
+            QUOTAS_DOCKET,
+            FULL_CAPACITY,
             "E,offer,a,x\nE,offer,b,x\nE,take,x,a\nE,answer,x,a,hold\nE,take,x,b\nE,answer,x,b,decline\n",
         ],
         "N,6,not-due\n",
     ),
-    (&[SMALL, FULL, SMALL_JOURNAL, OTHER_SHEET], "D,x\n"),
     (
-        &[QUOTAS, FULL, ELEVEN, TO_THIRTEEN, TO_EIGHTEEN],
+        &[SMALL_DOCKET, FULL_CAPACITY, SMALL_JOURNAL, OTHER_SHEET],
+        "D,x\n",
+    ),
+    (
+        &[
+            QUOTAS_DOCKET,
+            FULL_CAPACITY,
+            ELEVEN_EVENTS,
+            EVENTS_TO_THIRTEEN,
+            EVENTS_TO_EIGHTEEN,
+        ],
         "N,19,not-closed\n",
     ),
-    (&[QUOTAS, FULL, "E,offer,a,y\n"], "N,1,not-next\n"),
     (
-        &[SMALL, FULL, "E,offer,a,x\nE,offer,a,y\n"],
+        &[QUOTAS_DOCKET, FULL_CAPACITY, "E,offer,a,y\n"],
+        "N,1,not-next\n",
+    ),
+    (
+        &[SMALL_DOCKET, FULL_CAPACITY, "E,offer,a,x\nE,offer,a,y\n"],
         "N,2,no-place\n",
     ),
     (
         &[
-            QUOTAS,
-            FULL,
+            QUOTAS_DOCKET,
+            FULL_CAPACITY,
             "E,offer,a,x\nE,offer,b,x\nE,take,x,a\nE,take,x,b\n",
         ],
         "N,4,answer-due\n",
     ),
-    (&[SMALL, FULL, CLOSE], "N,1,still-pending,wish,a\n"),
     (
-        &[SMALL, FULL, "E,offer,a,x\n", CLOSE],
+        &[SMALL_DOCKET, FULL_CAPACITY, CLOSE_EVENT],
+        "N,1,still-pending,wish,a\n",
+    ),
+    (
+        &[SMALL_DOCKET, FULL_CAPACITY, "E,offer,a,x\n", CLOSE_EVENT],
         "N,2,still-pending,offers,x\n",
     ),
     (
-        &[SMALL, FULL, "E,offer,a,x\nE,take,x,a\n", CLOSE],
+        &[
+            SMALL_DOCKET,
+            FULL_CAPACITY,
+            "E,offer,a,x\nE,take,x,a\n",
+            CLOSE_EVENT,
+        ],
         "N,3,still-pending,due,x\n",
     ),
 ];
@@ -113,7 +171,7 @@ fn replays_bad_journals(rt: HostRuntime) -> Result<(), Fail> {
 }
 
 // The nine events of a journal of the small docket.
-const NINE: [&str; 9] = [
+const NINE_EVENTS: [&str; 9] = [
     "E,offer,a,x\n",
     "E,offer,b,y\n",
     "E,take,x,a\n",
@@ -126,10 +184,10 @@ const NINE: [&str; 9] = [
 ];
 
 // A journal of those of the nine events that have these indices. Any other index stands for an event of no kind.
-fn journal_of(alloc: Global, events: &[usize]) -> Result<String, AllocError> {
-    let mut journal = FULL.to_string(alloc)?;
-    for event in events {
-        journal.push_str(NINE.get(*event).copied().unwrap_or("E,none\n"))?;
+fn journal_of(alloc: Global, event_indices: &[usize]) -> Result<String, AllocError> {
+    let mut journal = FULL_CAPACITY.to_string(alloc)?;
+    for index in event_indices {
+        journal.push_str(NINE_EVENTS.get(*index).copied().unwrap_or("E,none\n"))?;
     }
     Ok(journal)
 }
@@ -168,10 +226,10 @@ const FORGED: [(&[usize], Status, &str, u8); 7] = [
 
 #[test]
 fn sees_forged_journals(rt: HostRuntime) -> Result<(), Fail> {
-    for (events, status, row, exit) in FORGED {
-        let journal = journal_of(rt.alloc(), events)?;
-        let texts = [SMALL, journal.as_str()];
-        let expected = (Ok(status), row, exit);
+    for (event_indices, status, row, exit_code) in FORGED {
+        let journal = journal_of(rt.alloc(), event_indices)?;
+        let texts = [SMALL_DOCKET, journal.as_str()];
+        let expected = (Ok(status), row, exit_code);
         assert!(rt;
             serves_both(rt, rt.alloc(), Order::Replay, &texts, expected)?,
             "{row}"
@@ -184,13 +242,18 @@ fn sees_forged_journals(rt: HostRuntime) -> Result<(), Fail> {
 fn replays_journals_by_worker(rt: HostRuntime) -> Result<(), Fail> {
     let cases: [(&[&str], Status, &str, u8); 5] = [
         (
-            &[SMALL, EIGHT_BY_TWO, "E,close,0\n"],
+            &[SMALL_DOCKET, EIGHT_EVENTS_BY_TWO, "E,close,0\n"],
             Status::ReplayGood,
             "G,9\nK,0,5\nK,1,4\n",
             0,
         ),
         (
-            &[SMALL, EIGHT_BY_TWO, "E,close,1\n", SMALL_SHEET],
+            &[
+                SMALL_DOCKET,
+                EIGHT_EVENTS_BY_TWO,
+                "E,close,1\n",
+                SMALL_SHEET,
+            ],
             Status::ReplayGood,
             "G,9\nK,0,4\nK,1,5\n",
             0,
@@ -202,20 +265,25 @@ fn replays_journals_by_worker(rt: HostRuntime) -> Result<(), Fail> {
             0,
         ),
         (
-            &[SMALL, EIGHT_BY_TWO],
+            &[SMALL_DOCKET, EIGHT_EVENTS_BY_TWO],
             Status::ReplayBad,
             "N,9,not-closed\n",
             4,
         ),
         (
-            &[SMALL, EIGHT_BY_TWO, "E,close,0\n", OTHER_SHEET],
+            &[
+                SMALL_DOCKET,
+                EIGHT_EVENTS_BY_TWO,
+                "E,close,0\n",
+                OTHER_SHEET,
+            ],
             Status::ReplayBad,
             "D,x\n",
             4,
         ),
     ];
-    for (texts, status, rows, exit) in cases {
-        let expected = (Ok(status), rows, exit);
+    for (texts, status, rows, exit_code) in cases {
+        let expected = (Ok(status), rows, exit_code);
         assert!(rt;
             serves(rt, rt.alloc(), Order::Replay, texts, expected)?,
             "{rows}"
@@ -228,19 +296,19 @@ fn replays_journals_by_worker(rt: HostRuntime) -> Result<(), Fail> {
 fn refuses_wrong_workers(rt: HostRuntime) -> Result<(), Fail> {
     let cases: [(&[&str], DocketFault); 4] = [
         (
-            &[SMALL, EIGHT_BY_TWO, "E,close,2\n"],
+            &[SMALL_DOCKET, EIGHT_EVENTS_BY_TWO, "E,close,2\n"],
             DocketFault::BadEvent { place: 16 },
         ),
         (
-            &[SMALL, EIGHT_BY_TWO, "E,close\n"],
+            &[SMALL_DOCKET, EIGHT_EVENTS_BY_TWO, "E,close\n"],
             DocketFault::FieldCount { place: 16 },
         ),
         (
-            &[SMALL, EIGHT_BY_TWO, "E,close,0,0\n"],
+            &[SMALL_DOCKET, EIGHT_EVENTS_BY_TWO, "E,close,0,0\n"],
             DocketFault::FieldCount { place: 16 },
         ),
         (
-            &[SMALL, "C,full,9\n", "E,close,0\n"],
+            &[SMALL_DOCKET, "C,full,9\n", "E,close,0\n"],
             DocketFault::BadEvent { place: 7 },
         ),
     ];
@@ -260,13 +328,13 @@ const REPLAYS: [(&[&str], Status, &str, u8); 3] = [
     (
         &[
             VERSION_2,
-            QUOTAS,
+            QUOTAS_DOCKET,
             "W,P,b\n",
-            FULL,
-            ELEVEN,
-            TO_THIRTEEN,
-            TO_EIGHTEEN,
-            CLOSE,
+            FULL_CAPACITY,
+            ELEVEN_EVENTS,
+            EVENTS_TO_THIRTEEN,
+            EVENTS_TO_EIGHTEEN,
+            CLOSE_EVENT,
         ],
         Status::ReplayBad,
         "N,7,not-next\n",
@@ -275,9 +343,9 @@ const REPLAYS: [(&[&str], Status, &str, u8); 3] = [
     (
         &[
             VERSION_2,
-            SMALL,
+            SMALL_DOCKET,
             "W,R,x\n",
-            FULL,
+            FULL_CAPACITY,
             SMALL_JOURNAL,
             SMALL_SHEET,
         ],
@@ -288,9 +356,9 @@ const REPLAYS: [(&[&str], Status, &str, u8); 3] = [
     (
         &[
             VERSION_2,
-            SMALL,
-            UNLISTED,
-            FULL,
+            SMALL_DOCKET,
+            UNLISTED_MEMBERS,
+            FULL_CAPACITY,
             SMALL_JOURNAL,
             "W,R,z\nW,P,c\n",
         ],
@@ -302,8 +370,8 @@ const REPLAYS: [(&[&str], Status, &str, u8); 3] = [
 
 #[test]
 fn replays_of_old_journals(rt: HostRuntime) -> Result<(), Fail> {
-    for (texts, status, row, exit) in REPLAYS {
-        let expected = (Ok(status), row, exit);
+    for (texts, status, row, exit_code) in REPLAYS {
+        let expected = (Ok(status), row, exit_code);
         assert!(rt;
             serves(rt, rt.alloc(), Order::Replay, texts, expected)?,
             "{row}"

@@ -1,8 +1,8 @@
 //! Which worker made each event, as a journal by worker says.
 ghost use Rattle.std.specs.Prelude.{true, false};
 
-use crate::markets::{hundreds, push_all, push_numbered};
-use crate::texts::{QUOTAS, SMALL};
+use crate::markets::{four_hundred_pairs, push_all_numbered, push_numbered};
+use crate::texts::{QUOTAS_DOCKET, SMALL_DOCKET};
 use docket::{Docket, Journal, read_docket};
 use exchange_core::{Capacity, Desk, Event};
 use match_pool::{Gate, Go};
@@ -18,36 +18,36 @@ use test_gates::gates::{Firm, Held};
 use test_support::events::desk_of;
 use test_support::randomness::OneByte;
 
-// How many rows of a text begin with `start` and end with `end`.
-fn rows_between(text: &[u8], start: &str, end: &str) -> u64 {
-    let mut count = 0_u64;
+// How many rows of a text begin with `row_start` and end with `row_end`.
+fn rows_between(text: &[u8], row_start: &str, row_end: &str) -> u64 {
+    let mut row_count = 0_u64;
     if let Ok(text) = str::from_utf8(text) {
         for line in text.lines() {
-            if line.starts_with(start) && line.ends_with(end) {
-                count = count.saturating_add(1);
+            if line.starts_with(row_start) && line.ends_with(row_end) {
+                row_count = row_count.saturating_add(1);
             }
         }
     }
-    count
+    row_count
 }
 
 // Adds the row that a replay writes for each worker. Returns whether the journal names each worker as often as the
 // gate counted the worker's entries.
-fn is_named(
+fn names_workers_as_counted(
     alloc: Global,
     journal: &[u8],
     gate: &Firm,
     workers: usize,
-    replayed: &mut String,
+    replay_rows: &mut String,
 ) -> Result<bool, AllocError> {
-    let mut same = true;
+    let mut counts_agree = true;
     for worker in 0..workers {
-        let entered = gate.0.count(worker);
-        let named = rows_between(journal, "E,", format!(in alloc; ",{worker}")?.as_str());
-        same = same && named == entered;
-        replayed.push_str(format!(in alloc; "K,{worker},{entered}\n")?.as_str())?;
+        let entered_count = gate.0.count(worker);
+        let named_count = rows_between(journal, "E,", format!(in alloc; ",{worker}")?.as_str());
+        counts_agree = counts_agree && named_count == entered_count;
+        replay_rows.push_str(format!(in alloc; "K,{worker},{entered_count}\n")?.as_str())?;
     }
-    Ok(same)
+    Ok(counts_agree)
 }
 
 // Whether a match names the worker of each event. Its first receipt waits until another worker has entered two
@@ -66,25 +66,31 @@ fn names_its_workers<H: Threads + Wait + RandomSource + Sync + Send + Copy>(
     };
     let mut written = Vec::new(alloc);
     let status = serve_match(rt, alloc, docket.as_bytes(), &mut written, &options, &gate);
-    let mut rows = format!(in alloc; "G,{}\n", gate.0.count_all())?;
-    let same = is_named(alloc, written.as_slice(), &gate, workers, &mut rows)?;
-    let mut all = docket.as_bytes().to_vec(alloc)?;
-    all.extend_from_slice(written.as_slice())?;
-    let mut answer = Vec::new(alloc);
-    let replayed = serve_replay(&rt, alloc, all.as_slice(), &mut answer);
+    let mut replay_rows = format!(in alloc; "G,{}\n", gate.0.count_all())?;
+    let counts_agree = names_workers_as_counted(
+        alloc,
+        written.as_slice(),
+        &gate,
+        workers,
+        &mut replay_rows,
+    )?;
+    let mut whole_docket = docket.as_bytes().to_vec(alloc)?;
+    whole_docket.extend_from_slice(written.as_slice())?;
+    let mut replay_output = Vec::new(alloc);
+    let replay_status = serve_replay(&rt, alloc, whole_docket.as_slice(), &mut replay_output);
     Ok(
         status == Ok(Status::Closed)
             && gate.0.has_held()
-            && same
-            && replayed == Ok(Status::ReplayGood)
-            && answer.as_slice() == rows.as_bytes(),
+            && counts_agree
+            && replay_status == Ok(Status::ReplayGood)
+            && replay_output.as_slice() == replay_rows.as_bytes(),
     )
 }
 
 #[test]
 fn a_journal_names_the_worker_of_each_event(rt: HostRuntime) -> Result<(), Fail> {
-    let market = hundreds(rt.alloc())?;
-    for docket in [SMALL, QUOTAS, market.as_str()] {
+    let market = four_hundred_pairs(rt.alloc())?;
+    for docket in [SMALL_DOCKET, QUOTAS_DOCKET, market.as_str()] {
         for workers in 2..9_usize {
             assert!(rt;
                 names_its_workers(rt, rt.alloc(), docket, workers)?,
@@ -111,7 +117,7 @@ const TURNS: u32 = 1_000_000;
 struct Noting<R: Wait + Copy> {
     rt: R,
     workers: usize,
-    passed: AtomicU64,
+    pass_count: AtomicU64,
     receipts: Mutex<Vec<Receipt>>,
 }
 
@@ -128,9 +134,9 @@ impl<R: Wait + Copy + Sync> Gate for Noting<R> {
         };
         // If there is no memory for the note of a receipt, the receipt is found missing when the journal names it.
         let _is_noted = self.receipts.lock(&self.rt).push(receipt).is_ok();
-        if self.passed.fetch_add(1, Ordering::SeqCst) == 0 && self.workers > 1 {
+        if self.pass_count.fetch_add(1, Ordering::SeqCst) == 0 && self.workers > 1 {
             for _ in 0..TURNS {
-                if self.passed.load(Ordering::SeqCst) > 1 {
+                if self.pass_count.load(Ordering::SeqCst) > 1 {
                     break;
                 }
                 thread::yield_now();
@@ -144,7 +150,7 @@ impl<R: Wait + Copy + Sync> Gate for Noting<R> {
 
 // The worker of this desk's first receipt that was not found in the journal yet. The receipt then counts
 // as found.
-fn next_at(receipts: &mut [Receipt], desk: Option<Desk>) -> Option<usize> {
+fn next_receipt_worker(receipts: &mut [Receipt], desk: Option<Desk>) -> Option<usize> {
     for receipt in receipts {
         if Some(receipt.desk) == desk && !receipt.is_found {
             receipt.is_found = true;
@@ -155,27 +161,27 @@ fn next_at(receipts: &mut [Receipt], desk: Option<Desk>) -> Option<usize> {
 }
 
 // Of the receipts of a desk that were found, the worker of the last one.
-fn last_at(receipts: &[Receipt], desk: Option<Desk>) -> Option<usize> {
-    let mut last = None;
+fn last_receipt_worker(receipts: &[Receipt], desk: Option<Desk>) -> Option<usize> {
+    let mut last_worker = None;
     for receipt in receipts {
         if Some(receipt.desk) == desk && receipt.is_found {
-            last = Some(receipt.worker);
+            last_worker = Some(receipt.worker);
         }
     }
-    last
+    last_worker
 }
 
 // Whether the journal names, for each receipt, the worker that called `pass` for it. The worker that takes an offer
 // also gives the answers due, before it takes the next offer.
-fn is_told_by(journal: &Journal, receipts: &mut [Receipt]) -> bool {
-    let Some(by) = &journal.by else {
+fn names_receipt_workers(journal: &Journal, receipts: &mut [Receipt]) -> bool {
+    let Some(journal_workers) = &journal.by else {
         return false;
     };
-    for (event, worker) in journal.events.iter().zip(by.who.as_slice()) {
+    for (event, worker) in journal.events.iter().zip(journal_workers.who.as_slice()) {
         let desk = desk_of(event);
         let made_by = match event {
-            Event::Take { .. } | Event::Hear { .. } => next_at(receipts, desk),
-            Event::Answer { .. } => last_at(receipts, desk),
+            Event::Take { .. } | Event::Hear { .. } => next_receipt_worker(receipts, desk),
+            Event::Answer { .. } => last_receipt_worker(receipts, desk),
             Event::Offer { .. } | Event::Close => continue,
         };
         if made_by != Some(usize::from(*worker)) {
@@ -200,7 +206,7 @@ fn tells_its_workers<H: Threads + Wait + RandomSource + Sync + Send + Copy>(
     let gate = Noting {
         rt,
         workers,
-        passed: AtomicU64::new(0),
+        pass_count: AtomicU64::new(0),
         receipts: Mutex::new(Vec::new(alloc)),
     };
     let options = MatchOptions {
@@ -211,20 +217,20 @@ fn tells_its_workers<H: Threads + Wait + RandomSource + Sync + Send + Copy>(
     let mut text = docket.as_bytes().to_vec(alloc)?;
     let status = serve_match(rt, alloc, docket.as_bytes(), &mut text, &options, &gate);
     let mut receipts = gate.receipts.into_inner();
-    let Some(read) = docket_of(alloc, text.as_slice()) else {
+    let Some(written_docket) = docket_of(alloc, text.as_slice()) else {
         return Ok(false);
     };
-    let Some(journal) = read.journal() else {
+    let Some(journal) = written_docket.journal() else {
         return Ok(false);
     };
-    Ok(status == Ok(Status::Closed) && is_told_by(journal, receipts.as_mut_slice()))
+    Ok(status == Ok(Status::Closed) && names_receipt_workers(journal, receipts.as_mut_slice()))
 }
 
 // A docket of one programme that ranks thirty residents and has a place for each.
-fn thirty(alloc: Global) -> Result<String, AllocError> {
+fn docket_of_thirty(alloc: Global) -> Result<String, AllocError> {
     let mut text = String::new(alloc);
     text.push_str("Q,a,30\nP,a")?;
-    push_all(&mut text, alloc, ",r", 30, "")?;
+    push_all_numbered(&mut text, alloc, ",r", 30, "")?;
     text.push_str("\n")?;
     for r in 0..30 {
         push_numbered(&mut text, alloc, "R,r", r, ",a\n")?;
@@ -234,8 +240,11 @@ fn thirty(alloc: Global) -> Result<String, AllocError> {
 
 #[test]
 fn a_journal_tells_who_made_each_receipt_and_each_answer(rt: HostRuntime) -> Result<(), Fail> {
-    let (one, market) = (thirty(rt.alloc())?, hundreds(rt.alloc())?);
-    for docket in [one.as_str(), QUOTAS, market.as_str()] {
+    let (large_programme, market) = (
+        docket_of_thirty(rt.alloc())?,
+        four_hundred_pairs(rt.alloc())?,
+    );
+    for docket in [large_programme.as_str(), QUOTAS_DOCKET, market.as_str()] {
         for workers in 1..=8 {
             assert!(rt;
                 tells_its_workers(rt, rt.alloc(), docket, workers)?,

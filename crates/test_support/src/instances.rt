@@ -14,8 +14,8 @@ pub const TWO_PLACES: Members = (&[(2, &[0, 1, 2]), (1, &[0])], &[&[1, 0], &[0],
 
 fn residents(alloc: Global, numbers: &[u32]) -> Result<Vec<ResidentNo>, ModelFault> {
     let mut list = Vec::new(alloc);
-    for n in numbers {
-        let Ok(()) = list.push(ResidentNo(*n)) else {
+    for number in numbers {
+        let Ok(()) = list.push(ResidentNo(*number)) else {
             return Err(ModelFault::Memory);
         };
     }
@@ -24,8 +24,8 @@ fn residents(alloc: Global, numbers: &[u32]) -> Result<Vec<ResidentNo>, ModelFau
 
 fn programmes(alloc: Global, numbers: &[u32]) -> Result<Vec<ProgrammeNo>, ModelFault> {
     let mut list = Vec::new(alloc);
-    for n in numbers {
-        let Ok(()) = list.push(ProgrammeNo(*n)) else {
+    for number in numbers {
+        let Ok(()) = list.push(ProgrammeNo(*number)) else {
             return Err(ModelFault::Memory);
         };
     }
@@ -45,15 +45,15 @@ fn add_members(
         let list = residents(alloc, list)?;
         builder.programme_list(programme, list.as_slice())?;
     }
-    for (r, list) in (0..20_000).zip(members.1) {
+    for (resident, list) in (0..20_000).zip(members.1) {
         let list = programmes(alloc, list)?;
-        builder.resident_list(ResidentNo(r), list.as_slice())?;
+        builder.resident_list(ResidentNo(resident), list.as_slice())?;
     }
     Ok(())
 }
 
 /// The instance of these members.
-pub fn made(alloc: Global, members: Members) -> Result<Instance, ModelFault> {
+pub fn instance_of(alloc: Global, members: Members) -> Result<Instance, ModelFault> {
     let mut builder = InstanceBuilder::new(alloc);
     add_members(alloc, &mut builder, members)?;
     builder.finish().map_err(|refused| refused.fault)
@@ -61,8 +61,10 @@ pub fn made(alloc: Global, members: Members) -> Result<Instance, ModelFault> {
 
 /// Whether a sheet matches each resident with the programme that has this number, or with none.
 pub fn has_places(sheet: &Assignment, places: &[Option<u32>]) -> bool {
-    for (r, place) in (0..sheet.len()).zip(places) {
-        if r < sheet.len() && sheet.get(ResidentNo(r)) != place.map(|p| ProgrammeNo(p)) {
+    for (resident, place) in (0..sheet.len()).zip(places) {
+        if resident < sheet.len()
+            && sheet.get(ResidentNo(resident)) != place.map(|p| ProgrammeNo(p))
+        {
             return false;
         }
     }

@@ -5,8 +5,8 @@ use std::alloc::Global;
 /// All residents with numbers below 20,000.
 pub fn all_residents(alloc: Global) -> Result<Vec<ResidentNo>, ModelFault> {
     let mut residents = Vec::new(alloc);
-    for r in 0..20_000 {
-        let Ok(()) = residents.push(ResidentNo(r)) else {
+    for number in 0..20_000 {
+        let Ok(()) = residents.push(ResidentNo(number)) else {
             return Err(ModelFault::Memory);
         };
     }
@@ -14,7 +14,7 @@ pub fn all_residents(alloc: Global) -> Result<Vec<ResidentNo>, ModelFault> {
 }
 
 /// All programmes with numbers below ten.
-pub const TEN: [ProgrammeNo; 10] = [
+pub const TEN_PROGRAMMES: [ProgrammeNo; 10] = [
     ProgrammeNo(0),
     ProgrammeNo(1),
     ProgrammeNo(2),
@@ -39,7 +39,7 @@ fn add_in_one_order(
         builder.programme_list(programme, residents)?;
     }
     for resident in residents {
-        builder.resident_list(*resident, &TEN)?;
+        builder.resident_list(*resident, &TEN_PROGRAMMES)?;
     }
     Ok(())
 }
@@ -54,7 +54,7 @@ pub fn made_in_one_order(alloc: Global) -> Result<Instance, ModelFault> {
 }
 
 // Adds these numbers of residents and of programmes. Each programme has one place.
-fn add_ones(
+fn add_one_place_members(
     builder: &mut InstanceBuilder,
     residents: u32,
     programmes: u32,
@@ -71,10 +71,10 @@ fn add_ones(
 /// Pairs of a programme with one place and a resident, who rank only each other.
 pub fn made_pairs(alloc: Global, pairs: u32) -> Result<Instance, ModelFault> {
     let mut builder = InstanceBuilder::new(alloc);
-    add_ones(&mut builder, pairs, pairs)?;
-    for n in 0..pairs {
-        builder.programme_list(ProgrammeNo(n), &[ResidentNo(n)])?;
-        builder.resident_list(ResidentNo(n), &[ProgrammeNo(n)])?;
+    add_one_place_members(&mut builder, pairs, pairs)?;
+    for pair in 0..pairs {
+        builder.programme_list(ProgrammeNo(pair), &[ResidentNo(pair)])?;
+        builder.resident_list(ResidentNo(pair), &[ProgrammeNo(pair)])?;
     }
     builder.finish().map_err(|refused| refused.fault)
 }
@@ -83,14 +83,22 @@ pub fn made_pairs(alloc: Global, pairs: u32) -> Result<Instance, ModelFault> {
 /// displaces that one from its programme, and so on.
 pub fn made_chain(alloc: Global, links: u32) -> Result<Instance, ModelFault> {
     let mut builder = InstanceBuilder::new(alloc);
-    add_ones(&mut builder, links, links.saturating_add(1))?;
-    for n in 0..links {
-        let next = n.saturating_add(1);
-        let both = [ResidentNo(n), ResidentNo(next)];
-        let list = if next < links { &both[..] } else { &both[..1] };
-        builder.programme_list(ProgrammeNo(n), list)?;
-        let better = ProgrammeNo(if n == 0 { links } else { n.saturating_sub(1) });
-        builder.resident_list(ResidentNo(n), &[better, ProgrammeNo(n)])?;
+    add_one_place_members(&mut builder, links, links.saturating_add(1))?;
+    for link in 0..links {
+        let next_link = link.saturating_add(1);
+        let residents = [ResidentNo(link), ResidentNo(next_link)];
+        let list = if next_link < links {
+            &residents[..]
+        } else {
+            &residents[..1]
+        };
+        builder.programme_list(ProgrammeNo(link), list)?;
+        let better_programme = ProgrammeNo(if link == 0 {
+            links
+        } else {
+            link.saturating_sub(1)
+        });
+        builder.resident_list(ResidentNo(link), &[better_programme, ProgrammeNo(link)])?;
     }
     builder.programme_list(ProgrammeNo(links), &[ResidentNo(0)])?;
     builder.finish().map_err(|refused| refused.fault)

@@ -2,7 +2,7 @@
 use match_model::{Instance, ProgrammeNo, ResidentNo};
 
 /// Whether a programme has this quota and this list.
-pub fn is_programme(
+pub fn has_quota_and_list(
     instance: &Instance,
     programme: ProgrammeNo,
     quota: u32,
@@ -14,6 +14,6 @@ pub fn is_programme(
 }
 
 /// Whether a resident has this list.
-pub fn is_resident(instance: &Instance, resident: ResidentNo, list: &[ProgrammeNo]) -> bool {
+pub fn has_list(instance: &Instance, resident: ResidentNo, list: &[ProgrammeNo]) -> bool {
     resident.0 < instance.residents() && instance.list_of_resident(resident) == list
 }

@@ -8,8 +8,8 @@ pub struct OneByte(pub u8);
 
 impl RandomSource for OneByte {
     fn fill_bytes(&self, buf: &mut [u8]) -> io::Result<()> {
-        for place in buf {
-            *place = self.0;
+        for byte in buf {
+            *byte = self.0;
         }
         Ok(())
     }

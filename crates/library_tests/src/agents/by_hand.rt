@@ -16,7 +16,7 @@ use std::marker::Brand;
 use std::sync::Wait;
 use std::sync::ledger::Blank;
 use std::test::Fail;
-use test_support::instances::{TWO_PLACES, made};
+use test_support::instances::{TWO_PLACES, instance_of};
 
 /// A number of turns that is larger than any exchange here needs.
 const TURNS: u32 = 20;
@@ -91,7 +91,7 @@ fn resident_desk<J: ExchangeIdentity, R: Wait + Copy>(
 ) -> Result<(RuledPut<OfferNote, R>, Resident<J, RuledTake<OfferNote, R>>), MailFault>
     requires instance { inst.now ≡ J.inst }
     requires member { IsResident inst.now resident }
-    ensures { IfOk result (λ both. both.0.puts ≡ []) }
+    ensures { IfOk result (λ put_and_desk. put_and_desk.0.puts ≡ []) }
 {
     let room = inst.list_of_resident(resident).len().max(1);
     let (put, take) = mailbox(alloc, rt, room as u32)?;
@@ -114,7 +114,7 @@ fn open_residents<J: ExchangeIdentity, R: Wait + Copy>(
     MailFault,
 >
     requires { inst.now ≡ J.inst }
-    ensures { IfOk result (λ both. All (λ end. end.puts ≡ []) both.0.items) }
+    ensures { IfOk result (λ puts_and_desks. All (λ end. end.puts ≡ []) puts_and_desks.0.items) }
 {
     let mut puts = Vec::new(alloc);
     let mut desks = Vec::new(alloc);
@@ -143,7 +143,7 @@ fn programme_desk<J: ExchangeIdentity, R: Wait + Copy>(
 >
     requires instance { inst.now ≡ J.inst }
     requires member { IsProgramme inst.now programme }
-    ensures { IfOk result (λ both. both.0.puts ≡ []) }
+    ensures { IfOk result (λ put_and_desk. put_and_desk.0.puts ≡ []) }
 {
     let room = (2 * inst.list_of_programme(programme).len()).max(1);
     let (put, take) = mailbox(alloc, rt, room as u32)?;
@@ -166,7 +166,7 @@ fn open_programmes<J: ExchangeIdentity, R: Wait + Copy>(
     MailFault,
 >
     requires { inst.now ≡ J.inst }
-    ensures { IfOk result (λ both. All (λ end. end.puts ≡ []) both.0.items) }
+    ensures { IfOk result (λ puts_and_desks. All (λ end. end.puts ≡ []) puts_and_desks.0.items) }
 {
     let mut puts = Vec::new(alloc);
     let mut desks = Vec::new(alloc);
@@ -180,14 +180,18 @@ fn open_programmes<J: ExchangeIdentity, R: Wait + Copy>(
 }
 
 /// The programmes whose offers this resident took, by the journal.
-fn takes(alloc: Global, journal: &[Event], by: ResidentNo) -> Result<Vec<OfferNote>, AllocError> {
+fn taken_offers(
+    alloc: Global,
+    journal: &[Event],
+    by_resident: ResidentNo,
+) -> Result<Vec<OfferNote>, AllocError> {
     let mut notes = Vec::new(alloc);
     for event in journal {
         if let Event::Take {
             resident,
             programme,
         } = *event
-            && resident == by
+            && resident == by_resident
         {
             notes.push(OfferNote { programme })?;
         }
@@ -196,7 +200,11 @@ fn takes(alloc: Global, journal: &[Event], by: ResidentNo) -> Result<Vec<OfferNo
 }
 
 /// The residents and the kinds of the answers that this programme heard, by the journal.
-fn hears(alloc: Global, journal: &[Event], by: ProgrammeNo) -> Result<Vec<AnswerNote>, AllocError> {
+fn heard_answers(
+    alloc: Global,
+    journal: &[Event],
+    by_programme: ProgrammeNo,
+) -> Result<Vec<AnswerNote>, AllocError> {
     let mut notes = Vec::new(alloc);
     for event in journal {
         if let Event::Hear {
@@ -204,7 +212,7 @@ fn hears(alloc: Global, journal: &[Event], by: ProgrammeNo) -> Result<Vec<Answer
             resident,
             kind,
         } = *event
-            && programme == by
+            && programme == by_programme
         {
             notes.push(AnswerNote { resident, kind })?;
         }
@@ -213,13 +221,13 @@ fn hears(alloc: Global, journal: &[Event], by: ProgrammeNo) -> Result<Vec<Answer
 }
 
 /// Whether each resident's log has exactly the resident's takes in the journal.
-fn have_taken<J: ExchangeIdentity, T: TakeEnd<OfferNote> + Drop>(
+fn resident_logs_agree<J: ExchangeIdentity, T: TakeEnd<OfferNote> + Drop>(
     alloc: Global,
     journal: &[Event],
     residents: &[Resident<J, T>],
 ) -> Result<bool, AllocError> {
-    for (r, desk) in (0..20_000).zip(residents) {
-        let takes = takes(alloc, journal, ResidentNo(r))?;
+    for (resident, desk) in (0..20_000).zip(residents) {
+        let takes = taken_offers(alloc, journal, ResidentNo(resident))?;
         if desk.log() != takes.as_slice() {
             return Ok(false);
         }
@@ -228,13 +236,13 @@ fn have_taken<J: ExchangeIdentity, T: TakeEnd<OfferNote> + Drop>(
 }
 
 /// Whether each programme's log has exactly the programme's hears in the journal.
-fn have_heard<J: ExchangeIdentity, U: TakeEnd<AnswerNote> + Drop>(
+fn programme_logs_agree<J: ExchangeIdentity, U: TakeEnd<AnswerNote> + Drop>(
     alloc: Global,
     journal: &[Event],
     programmes: &[Programme<J, U>],
 ) -> Result<bool, AllocError> {
-    for (p, desk) in (0..2_000).zip(programmes) {
-        let hears = hears(alloc, journal, ProgrammeNo(p))?;
+    for (programme, desk) in (0..2_000).zip(programmes) {
+        let hears = heard_answers(alloc, journal, ProgrammeNo(programme))?;
         if desk.log() != hears.as_slice() {
             return Ok(false);
         }
@@ -260,14 +268,14 @@ fn serve_to_close<
     requires { inst.now ≡ J.inst }
 {
     for _ in 0..TURNS {
-        for p in 0..inst.programmes() {
-            if let Some(desk) = programmes.get_mut(p as usize) {
-                serve_programme(inst, ledger, tally, desk, ProgrammeNo(p))?;
+        for programme in 0..inst.programmes() {
+            if let Some(desk) = programmes.get_mut(programme as usize) {
+                serve_programme(inst, ledger, tally, desk, ProgrammeNo(programme))?;
             }
         }
-        for r in 0..inst.residents() {
-            if let Some(desk) = residents.get_mut(r as usize) {
-                serve_resident(inst, ledger, tally, desk, ResidentNo(r))?;
+        for resident in 0..inst.residents() {
+            if let Some(desk) = residents.get_mut(resident as usize) {
+                serve_resident(inst, ledger, tally, desk, ResidentNo(resident))?;
             }
         }
     }
@@ -287,16 +295,16 @@ fn exchange<J: ExchangeIdentity, R: Wait + Copy>(
     requires workers { J.workers ≡ 1 }
     requires blank { (blank.name ≡ J.name) × (blank.parts ≡ J.parts) × (J.parts ≡ 8) }
 {
-    let (offers, mut residents) = open_residents::<J, R>(alloc, rt, inst)?;
-    let (answers, mut programmes) = open_programmes::<J, R>(alloc, rt, inst)?;
+    let (offer_ends, mut resident_desks) = open_residents::<J, R>(alloc, rt, inst)?;
+    let (answer_ends, mut programme_desks) = open_programmes::<J, R>(alloc, rt, inst)?;
     let Ok((mut ledger, mut tallies)) = Ledger::open(
         alloc,
         blank,
         inst,
         Capacity::Full,
         1,
-        offers,
-        answers,
+        offer_ends,
+        answer_ends,
     ) else {
         return Ok(None);
     };
@@ -307,13 +315,13 @@ fn exchange<J: ExchangeIdentity, R: Wait + Copy>(
         inst,
         &mut ledger,
         &mut tally,
-        &mut residents,
-        &mut programmes,
+        &mut resident_desks,
+        &mut programme_desks,
     );
     let journal = ledger.journal();
-    let have_taken = have_taken(alloc, journal, &residents);
-    let have_heard = have_heard(alloc, journal, &programmes);
-    if served == Ok(()) && have_taken == Ok(true) && have_heard == Ok(true) {
+    let residents_agree = resident_logs_agree(alloc, journal, &resident_desks);
+    let programmes_agree = programme_logs_agree(alloc, journal, &programme_desks);
+    if served == Ok(()) && residents_agree == Ok(true) && programmes_agree == Ok(true) {
         return Ok(Some(journal.len()));
     }
     Ok(None)
@@ -321,8 +329,8 @@ fn exchange<J: ExchangeIdentity, R: Wait + Copy>(
 
 #[test]
 fn by_hand(rt: HostRuntime) -> Result<(), Fail> {
-    let inst = made(rt.alloc(), TWO_PLACES)?;
-    let events = exchange::<Brand, HostRuntime>(rt, rt.alloc(), Blank::new(PARTS), &inst);
-    assert!(rt; events == Ok(Some(17)) || events == Ok(Some(19)));
+    let inst = instance_of(rt.alloc(), TWO_PLACES)?;
+    let event_count = exchange::<Brand, HostRuntime>(rt, rt.alloc(), Blank::new(PARTS), &inst);
+    assert!(rt; event_count == Ok(Some(17)) || event_count == Ok(Some(19)));
     Ok(())
 }

@@ -48,16 +48,16 @@ impl<T: TakeEnd<OfferNote> + Drop> ResidentRun<T> {
 
     /// Gives the first answer that is due.
     pub(super) fn give(&mut self) -> Option<(ProgrammeNo, AnswerKind)> {
-        let due = self.agent.due()?;
+        let due_answer = self.agent.due()?;
         self.agent.answered();
-        Some(due)
+        Some(due_answer)
     }
 
     /// Gives the first two answers that are due.
     pub(super) fn give_two(&mut self) -> [Option<(ProgrammeNo, AnswerKind)>; 2] {
-        let first = self.give();
-        let second = self.give();
-        [first, second]
+        let first_answer = self.give();
+        let second_answer = self.give();
+        [first_answer, second_answer]
     }
 
     pub(super) fn log(&self) -> &[OfferNote] {

@@ -16,7 +16,7 @@ pub(crate) struct Run {
 
 /// What the core shows: what is pending first, the resident of a programme's next offer, the programme whose
 /// offer a resident holds, and the answer that this resident owes first.
-pub(super) type Seen = (
+pub(super) type CoreView = (
     Option<Pending>,
     Option<ResidentNo>,
     Option<ProgrammeNo>,
@@ -46,7 +46,7 @@ impl Run {
     }
 
     /// What the core shows of this programme and this resident. Nothing is shown of a number that no member has.
-    pub(super) fn seen(&self, programme: ProgrammeNo, resident: ResidentNo) -> Seen {
+    pub(super) fn core_view(&self, programme: ProgrammeNo, resident: ResidentNo) -> CoreView {
         if programme.0 >= self.inst.programmes() || resident.0 >= self.inst.residents() {
             return (None, None, None, None);
         }

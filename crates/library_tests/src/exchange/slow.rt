@@ -7,7 +7,7 @@ use match_model::{Instance, ProgrammeNo, ResidentNo};
 
 /// One of the six lists that a list of events gives for a desk: what the desk sent, was sent, took or heard.
 #[derive(Clone, Copy)]
-enum Mail {
+enum MailList {
     OffersOf,
     OffersTo,
     Takes,
@@ -20,231 +20,273 @@ enum Mail {
 type Letter = (u32, Option<AnswerKind>);
 
 /// This item if the two numbers are equal, or none.
-fn where_same(a: u32, b: u32, letter: Letter) -> Option<Letter> {
-    if a == b { Some(letter) } else { None }
+fn letter_if_same(member: u32, desk: u32, letter: Letter) -> Option<Letter> {
+    if member == desk { Some(letter) } else { None }
 }
 
 /// The item that an event adds to this list of a desk, or none.
-fn letter(mail: Mail, desk: u32, event: &Event) -> Option<Letter> {
+fn letter_of(list: MailList, desk: u32, event: &Event) -> Option<Letter> {
     match event {
         Event::Offer {
-            programme: p,
-            resident: r,
-        } => offer_letter(mail, desk, p.0, r.0),
+            programme,
+            resident,
+        } => offer_letter(list, desk, programme.0, resident.0),
         Event::Take {
-            resident: r,
-            programme: p,
-        } => take_letter(mail, desk, r.0, p.0),
+            resident,
+            programme,
+        } => take_letter(list, desk, resident.0, programme.0),
         Event::Answer {
-            resident: r,
-            programme: p,
+            resident,
+            programme,
             kind,
-        } => answer_letter(mail, desk, (r.0, p.0), *kind),
+        } => answer_letter(list, desk, (resident.0, programme.0), *kind),
         Event::Hear {
-            programme: p,
-            resident: r,
+            programme,
+            resident,
             kind,
-        } => hear_letter(mail, desk, (p.0, r.0), *kind),
+        } => hear_letter(list, desk, (programme.0, resident.0), *kind),
         Event::Close => None,
     }
 }
 
-fn offer_letter(mail: Mail, desk: u32, p: u32, r: u32) -> Option<Letter> {
-    match mail {
-        Mail::OffersOf => where_same(p, desk, (r, None)),
-        Mail::OffersTo => where_same(r, desk, (p, None)),
+fn offer_letter(list: MailList, desk: u32, programme: u32, resident: u32) -> Option<Letter> {
+    match list {
+        MailList::OffersOf => letter_if_same(programme, desk, (resident, None)),
+        MailList::OffersTo => letter_if_same(resident, desk, (programme, None)),
         _ => None,
     }
 }
 
-fn take_letter(mail: Mail, desk: u32, r: u32, p: u32) -> Option<Letter> {
-    match mail {
-        Mail::Takes => where_same(r, desk, (p, None)),
+fn take_letter(list: MailList, desk: u32, resident: u32, programme: u32) -> Option<Letter> {
+    match list {
+        MailList::Takes => letter_if_same(resident, desk, (programme, None)),
         _ => None,
     }
 }
 
-fn answer_letter(mail: Mail, desk: u32, ends: (u32, u32), kind: AnswerKind) -> Option<Letter> {
-    let (r, p) = ends;
-    match mail {
-        Mail::AnswersOf => where_same(r, desk, (p, Some(kind))),
-        Mail::AnswersTo => where_same(p, desk, (r, Some(kind))),
+fn answer_letter(
+    list: MailList,
+    desk: u32,
+    resident_and_programme: (u32, u32),
+    kind: AnswerKind,
+) -> Option<Letter> {
+    let (resident, programme) = resident_and_programme;
+    match list {
+        MailList::AnswersOf => letter_if_same(resident, desk, (programme, Some(kind))),
+        MailList::AnswersTo => letter_if_same(programme, desk, (resident, Some(kind))),
         _ => None,
     }
 }
 
-fn hear_letter(mail: Mail, desk: u32, ends: (u32, u32), kind: AnswerKind) -> Option<Letter> {
-    let (p, r) = ends;
-    match mail {
-        Mail::Hears => where_same(p, desk, (r, Some(kind))),
+fn hear_letter(
+    list: MailList,
+    desk: u32,
+    programme_and_resident: (u32, u32),
+    kind: AnswerKind,
+) -> Option<Letter> {
+    let (programme, resident) = programme_and_resident;
+    match list {
+        MailList::Hears => letter_if_same(programme, desk, (resident, Some(kind))),
         _ => None,
     }
 }
 
 /// How many items this list of a desk has.
-fn count(mail: Mail, desk: u32, j: &[Event]) -> usize {
-    j.iter()
-        .filter(|event| letter(mail, desk, event).is_some())
+fn letter_count(list: MailList, desk: u32, journal: &[Event]) -> usize {
+    journal
+        .iter()
+        .filter(|event| letter_of(list, desk, event).is_some())
         .count()
 }
 
-/// The item at index `place` in this list of a desk.
-fn item(mail: Mail, desk: u32, j: &[Event], place: usize) -> Option<Letter> {
-    let mut items_left = place;
-    for event in j {
-        if let Some(letter) = letter(mail, desk, event) {
-            if items_left == 0 {
+/// The item at index `index` in this list of a desk.
+fn letter_at(list: MailList, desk: u32, journal: &[Event], index: usize) -> Option<Letter> {
+    let mut letters_before = index;
+    for event in journal {
+        if let Some(letter) = letter_of(list, desk, event) {
+            if letters_before == 0 {
                 return Some(letter);
             }
-            items_left -= 1;
+            letters_before -= 1;
         }
     }
     None
 }
 
-fn place(ranking: &[ProgrammeNo], p: u32) -> usize {
-    let index = ranking.iter().position(|q| q.0 == p);
+fn place_on(ranking: &[ProgrammeNo], programme: u32) -> usize {
+    let index = ranking.iter().position(|ranked| ranked.0 == programme);
     index.unwrap_or(ranking.len())
 }
 
 /// The place on the ranking of the best programme whose offer the resident took, or the ranking's length if the
 /// resident took no offer.
-fn best_place(ranking: &[ProgrammeNo], r: ResidentNo, j: &[Event]) -> usize {
-    let mut best = ranking.len();
-    for event in j {
-        if let Some((p, _)) = letter(Mail::Takes, r.0, event) {
-            best = best.min(place(ranking, p));
+fn best_place(ranking: &[ProgrammeNo], resident: ResidentNo, journal: &[Event]) -> usize {
+    let mut best_so_far = ranking.len();
+    for event in journal {
+        if let Some((programme, _)) = letter_of(MailList::Takes, resident.0, event) {
+            best_so_far = best_so_far.min(place_on(ranking, programme));
         }
     }
-    best
+    best_so_far
 }
 
 /// The answers that an offer by this programme calls for, if the resident takes it after these events.
-fn calls(ranking: &[ProgrammeNo], r: ResidentNo, earlier: &[Event], p: u32) -> [Option<Letter>; 2] {
-    let best_so_far = best_place(ranking, r, earlier);
-    if place(ranking, p) >= best_so_far {
-        return [Some((p, Some(AnswerKind::Decline))), None];
+fn answers_called(
+    ranking: &[ProgrammeNo],
+    resident: ResidentNo,
+    earlier_events: &[Event],
+    programme: u32,
+) -> [Option<Letter>; 2] {
+    let best_so_far = best_place(ranking, resident, earlier_events);
+    if place_on(ranking, programme) >= best_so_far {
+        return [Some((programme, Some(AnswerKind::Decline))), None];
     }
     let release = match ranking.get(best_so_far) {
-        Some(q) => Some((q.0, Some(AnswerKind::Release))),
+        Some(held_programme) => Some((held_programme.0, Some(AnswerKind::Release))),
         None => None,
     };
-    [Some((p, Some(AnswerKind::Hold))), release]
+    [Some((programme, Some(AnswerKind::Hold))), release]
 }
 
 /// The first answer that the resident owes and has not given.
-fn first_due(ranking: &[ProgrammeNo], r: ResidentNo, j: &[Event]) -> Option<Letter> {
-    let mut answers_given = count(Mail::AnswersOf, r.0, j);
-    for (index, event) in j.iter().enumerate() {
-        let Some((p, _)) = letter(Mail::Takes, r.0, event) else {
+fn first_answer_due(
+    ranking: &[ProgrammeNo],
+    resident: ResidentNo,
+    journal: &[Event],
+) -> Option<Letter> {
+    let mut answers_given = letter_count(MailList::AnswersOf, resident.0, journal);
+    for (index, event) in journal.iter().enumerate() {
+        let Some((programme, _)) = letter_of(MailList::Takes, resident.0, event) else {
             continue;
         };
-        let [first, second] = calls(ranking, r, &j[..index], p);
-        let called = if second.is_some() { 2 } else { 1 };
-        if answers_given < called {
-            return if answers_given == 0 { first } else { second };
+        let [first_answer, second_answer] = answers_called(
+            ranking,
+            resident,
+            &journal[..index],
+            programme,
+        );
+        let called_count = if second_answer.is_some() { 2 } else { 1 };
+        if answers_given < called_count {
+            return if answers_given == 0 {
+                first_answer
+            } else {
+                second_answer
+            };
         }
-        answers_given -= called;
+        answers_given -= called_count;
     }
     None
 }
 
 /// How many offers were sent to the resident and not taken.
-fn offers_waiting(r: ResidentNo, j: &[Event]) -> usize {
-    count(Mail::OffersTo, r.0, j).saturating_sub(count(Mail::Takes, r.0, j))
+fn offers_waiting(resident: ResidentNo, journal: &[Event]) -> usize {
+    letter_count(MailList::OffersTo, resident.0, journal).saturating_sub(letter_count(
+        MailList::Takes,
+        resident.0,
+        journal,
+    ))
 }
 
 /// How many answers were sent to the programme and not heard.
-fn answers_waiting(p: ProgrammeNo, j: &[Event]) -> usize {
-    count(Mail::AnswersTo, p.0, j).saturating_sub(count(Mail::Hears, p.0, j))
+fn answers_waiting(programme: ProgrammeNo, journal: &[Event]) -> usize {
+    letter_count(MailList::AnswersTo, programme.0, journal).saturating_sub(letter_count(
+        MailList::Hears,
+        programme.0,
+        journal,
+    ))
 }
 
-fn room(cap: Capacity, most: usize) -> usize {
+fn room(cap: Capacity, most_messages: usize) -> usize {
     match cap {
-        Capacity::Full => most.max(1),
-        Capacity::Each(n) => n as usize,
+        Capacity::Full => most_messages.max(1),
+        Capacity::Each(messages) => messages as usize,
     }
 }
 
 /// Whether this event is a hear by the programme of an answer that gives back a place.
-fn is_rejection(p: ProgrammeNo, event: &Event) -> bool {
-    match letter(Mail::Hears, p.0, event) {
+fn is_rejection(programme: ProgrammeNo, event: &Event) -> bool {
+    match letter_of(MailList::Hears, programme.0, event) {
         Some((_, kind)) => kind != Some(AnswerKind::Hold),
         None => false,
     }
 }
 
-fn out(p: ProgrammeNo, j: &[Event]) -> usize {
-    let freed = j.iter().filter(|event| is_rejection(p, event)).count();
-    count(Mail::OffersOf, p.0, j).saturating_sub(freed)
+fn offers_out(programme: ProgrammeNo, journal: &[Event]) -> usize {
+    let freed_places = journal
+        .iter()
+        .filter(|event| is_rejection(programme, event))
+        .count();
+    letter_count(MailList::OffersOf, programme.0, journal).saturating_sub(freed_places)
 }
 
 /// The first cause for which the event may not follow the list of events, or none.
 pub(super) fn refusal(
     inst: &Instance,
     cap: Capacity,
-    j: &[Event],
+    journal: &[Event],
     event: Event,
 ) -> Option<Refused> {
-    if j.contains(&Event::Close) {
+    if journal.contains(&Event::Close) {
         return Some(Refused::Closed);
     }
     match event {
         Event::Offer {
             programme,
             resident,
-        } => offer(inst, cap, j, programme, resident),
+        } => offer_refusal(inst, cap, journal, programme, resident),
         Event::Take {
             resident,
             programme,
-        } => take(inst, j, resident, programme),
+        } => take_refusal(inst, journal, resident, programme),
         Event::Answer {
             resident,
             programme,
             kind,
-        } => answer(inst, cap, j, resident, (programme, kind)),
+        } => answer_refusal(inst, cap, journal, resident, (programme, kind)),
         Event::Hear {
             programme,
             resident,
             kind,
-        } => hear(inst, j, programme, (resident, kind)),
-        Event::Close => pending(inst, j).map(Refused::StillPending),
+        } => hear_refusal(inst, journal, programme, (resident, kind)),
+        Event::Close => first_pending(inst, journal).map(Refused::StillPending),
     }
 }
 
 /// Whether the core and the slow definitions give the same answer.
-pub(super) fn is_same(core_answer: Result<(), Refused>, slow: Option<Refused>) -> bool {
-    match slow {
-        Some(why) => core_answer == Err(why),
+pub(super) fn is_same(core_answer: Result<(), Refused>, slow_refusal: Option<Refused>) -> bool {
+    match slow_refusal {
+        Some(cause) => core_answer == Err(cause),
         None => core_answer.is_ok(),
     }
 }
 
-fn is_strange(inst: &Instance, p: ProgrammeNo, r: ResidentNo) -> bool
-    ensures { result ≡ strange_desk inst.now p r }
+fn is_strange(inst: &Instance, programme: ProgrammeNo, resident: ResidentNo) -> bool
+    ensures { result ≡ strange_desk inst.now programme resident }
 {
-    p.0 >= inst.programmes() || r.0 >= inst.residents()
+    programme.0 >= inst.programmes() || resident.0 >= inst.residents()
 }
 
-fn offer(
+fn offer_refusal(
     inst: &Instance,
     cap: Capacity,
-    j: &[Event],
-    p: ProgrammeNo,
-    r: ResidentNo,
+    journal: &[Event],
+    programme: ProgrammeNo,
+    resident: ResidentNo,
 ) -> Option<Refused> {
-    if is_strange(inst, p, r) {
+    if is_strange(inst, programme, resident) {
         return Some(Refused::NoSuchDesk);
     }
-    if out(p, j) >= inst.quota(p) as usize {
+    if offers_out(programme, journal) >= inst.quota(programme) as usize {
         return Some(Refused::NoPlace);
     }
-    let next = inst.list_of_programme(p).get(count(Mail::OffersOf, p.0, j));
-    if next.copied() != Some(r) {
+    let next_resident = inst
+        .list_of_programme(programme)
+        .get(letter_count(MailList::OffersOf, programme.0, journal));
+    if next_resident.copied() != Some(resident) {
         return Some(Refused::NotNext);
     }
-    let most = inst.list_of_resident(r).len();
-    if offers_waiting(r, j) >= room(cap, most) {
+    let most_offers = inst.list_of_resident(resident).len();
+    if offers_waiting(resident, journal) >= room(cap, most_offers) {
         return Some(Refused::MailboxFull);
     }
     None
@@ -259,69 +301,87 @@ fn front_fault(front: Option<Letter>, wanted: Letter) -> Option<Refused> {
     }
 }
 
-fn take(inst: &Instance, j: &[Event], r: ResidentNo, p: ProgrammeNo) -> Option<Refused> {
-    if is_strange(inst, p, r) {
+fn take_refusal(
+    inst: &Instance,
+    journal: &[Event],
+    resident: ResidentNo,
+    programme: ProgrammeNo,
+) -> Option<Refused> {
+    if is_strange(inst, programme, resident) {
         return Some(Refused::NoSuchDesk);
     }
-    if first_due(inst.list_of_resident(r), r, j).is_some() {
+    if first_answer_due(inst.list_of_resident(resident), resident, journal).is_some() {
         return Some(Refused::AnswerDue);
     }
-    let front = item(Mail::OffersTo, r.0, j, count(Mail::Takes, r.0, j));
-    front_fault(front, (p.0, None))
+    let front = letter_at(
+        MailList::OffersTo,
+        resident.0,
+        journal,
+        letter_count(MailList::Takes, resident.0, journal),
+    );
+    front_fault(front, (programme.0, None))
 }
 
-fn answer(
+fn answer_refusal(
     inst: &Instance,
     cap: Capacity,
-    j: &[Event],
-    r: ResidentNo,
+    journal: &[Event],
+    resident: ResidentNo,
     given_answer: (ProgrammeNo, AnswerKind),
 ) -> Option<Refused> {
-    let (p, kind) = given_answer;
-    if is_strange(inst, p, r) {
+    let (programme, kind) = given_answer;
+    if is_strange(inst, programme, resident) {
         return Some(Refused::NoSuchDesk);
     }
-    if first_due(inst.list_of_resident(r), r, j) != Some((p.0, Some(kind))) {
+    if first_answer_due(inst.list_of_resident(resident), resident, journal)
+        != Some((programme.0, Some(kind)))
+    {
         return Some(Refused::NotDue);
     }
-    let most = inst.list_of_programme(p).len().saturating_mul(2);
-    if answers_waiting(p, j) >= room(cap, most) {
+    let most_answers = inst.list_of_programme(programme).len().saturating_mul(2);
+    if answers_waiting(programme, journal) >= room(cap, most_answers) {
         return Some(Refused::MailboxFull);
     }
     None
 }
 
-fn hear(
+fn hear_refusal(
     inst: &Instance,
-    j: &[Event],
-    p: ProgrammeNo,
-    heard: (ResidentNo, AnswerKind),
+    journal: &[Event],
+    programme: ProgrammeNo,
+    heard_answer: (ResidentNo, AnswerKind),
 ) -> Option<Refused> {
-    if is_strange(inst, p, heard.0) {
+    if is_strange(inst, programme, heard_answer.0) {
         return Some(Refused::NoSuchDesk);
     }
-    let front = item(Mail::AnswersTo, p.0, j, count(Mail::Hears, p.0, j));
-    front_fault(front, (heard.0.0, Some(heard.1)))
+    let front = letter_at(
+        MailList::AnswersTo,
+        programme.0,
+        journal,
+        letter_count(MailList::Hears, programme.0, journal),
+    );
+    front_fault(front, (heard_answer.0.0, Some(heard_answer.1)))
 }
 
-fn pending(inst: &Instance, j: &[Event]) -> Option<Pending> {
+fn first_pending(inst: &Instance, journal: &[Event]) -> Option<Pending> {
     for number in 0..inst.residents() {
-        let r = ResidentNo(number);
-        if offers_waiting(r, j) > 0 {
-            return Some(Pending::Offers(r));
+        let resident = ResidentNo(number);
+        if offers_waiting(resident, journal) > 0 {
+            return Some(Pending::Offers(resident));
         }
-        if first_due(inst.list_of_resident(r), r, j).is_some() {
-            return Some(Pending::Due(r));
+        if first_answer_due(inst.list_of_resident(resident), resident, journal).is_some() {
+            return Some(Pending::Due(resident));
         }
     }
     for number in 0..inst.programmes() {
-        let p = ProgrammeNo(number);
-        if answers_waiting(p, j) > 0 {
-            return Some(Pending::Answers(p));
+        let programme = ProgrammeNo(number);
+        if answers_waiting(programme, journal) > 0 {
+            return Some(Pending::Answers(programme));
         }
-        let left = count(Mail::OffersOf, p.0, j) < inst.list_of_programme(p).len();
-        if left && out(p, j) < inst.quota(p) as usize {
-            return Some(Pending::Wish(p));
+        let has_residents_left = letter_count(MailList::OffersOf, programme.0, journal)
+            < inst.list_of_programme(programme).len();
+        if has_residents_left && offers_out(programme, journal) < inst.quota(programme) as usize {
+            return Some(Pending::Wish(programme));
         }
     }
     None

@@ -13,57 +13,67 @@ const RESIDENTS: u32 = 5;
 
 /// Random numbers, each made from the number before it by shifts and exclusive ors.
 #[derive(Drop)]
-struct Numbers {
-    last: u32,
+struct RandomNumbers {
+    last_number: u32,
 }
 
-impl Numbers {
+impl RandomNumbers {
     /// The next random number, below this bound.
     fn below(&mut self, bound: u32) -> u32
         requires { 0 < bound }
         ensures { result < bound }
     {
-        self.last ^= self.last << 13;
-        self.last ^= self.last >> 17;
-        self.last ^= self.last << 5;
-        self.last % bound
+        self.last_number ^= self.last_number << 13;
+        self.last_number ^= self.last_number >> 17;
+        self.last_number ^= self.last_number << 5;
+        self.last_number % bound
     }
 }
 
 /// Most of the numbers below a prime, in random order.
-fn some_below(numbers: &mut Numbers, alloc: Global, prime: u32) -> Result<Vec<u32>, AllocError>
+fn some_numbers_below(
+    numbers: &mut RandomNumbers,
+    alloc: Global,
+    prime: u32,
+) -> Result<Vec<u32>, AllocError>
     requires { 1 < prime }
 {
-    let mut some = Vec::new(alloc);
+    let mut some_numbers = Vec::new(alloc);
     let mut number = numbers.below(prime);
     let step = numbers.below(prime - 1).saturating_add(1);
     for _ in 0..prime {
         if numbers.below(5) > 0 {
-            some.push(number)?;
+            some_numbers.push(number)?;
         }
         number = number.saturating_add(step) % prime;
     }
-    Ok(some)
+    Ok(some_numbers)
 }
 
-fn some_residents(numbers: &mut Numbers, alloc: Global) -> Result<Vec<ResidentNo>, AllocError> {
+fn some_residents(
+    numbers: &mut RandomNumbers,
+    alloc: Global,
+) -> Result<Vec<ResidentNo>, AllocError> {
     let mut residents = Vec::new(alloc);
-    for r in some_below(numbers, alloc, RESIDENTS)? {
-        residents.push(ResidentNo(r))?;
+    for resident in some_numbers_below(numbers, alloc, RESIDENTS)? {
+        residents.push(ResidentNo(resident))?;
     }
     Ok(residents)
 }
 
-fn some_programmes(numbers: &mut Numbers, alloc: Global) -> Result<Vec<ProgrammeNo>, AllocError> {
+fn some_programmes(
+    numbers: &mut RandomNumbers,
+    alloc: Global,
+) -> Result<Vec<ProgrammeNo>, AllocError> {
     let mut programmes = Vec::new(alloc);
-    for p in some_below(numbers, alloc, PROGRAMMES)? {
-        programmes.push(ProgrammeNo(p))?;
+    for programme in some_numbers_below(numbers, alloc, PROGRAMMES)? {
+        programmes.push(ProgrammeNo(programme))?;
     }
     Ok(programmes)
 }
 
 /// A random instance with quotas up to 3. Each list has most members of the other side.
-fn random_instance(numbers: &mut Numbers, alloc: Global) -> Result<Instance, ModelFault> {
+fn random_instance(numbers: &mut RandomNumbers, alloc: Global) -> Result<Instance, ModelFault> {
     let mut builder = InstanceBuilder::new(alloc);
     for _ in 0..PROGRAMMES {
         builder.add_programme(numbers.below(4))?;
@@ -71,19 +81,19 @@ fn random_instance(numbers: &mut Numbers, alloc: Global) -> Result<Instance, Mod
     for _ in 0..RESIDENTS {
         builder.add_resident()?;
     }
-    for p in 0..PROGRAMMES {
+    for programme in 0..PROGRAMMES {
         let residents = some_residents(numbers, alloc)?;
-        builder.programme_list(ProgrammeNo(p), &residents)?;
+        builder.programme_list(ProgrammeNo(programme), &residents)?;
     }
-    for r in 0..RESIDENTS {
+    for resident in 0..RESIDENTS {
         let programmes = some_programmes(numbers, alloc)?;
-        builder.resident_list(ResidentNo(r), &programmes)?;
+        builder.resident_list(ResidentNo(resident), &programmes)?;
     }
     builder.finish().map_err(|refused| refused.fault)
 }
 
 /// A random event. Now and then one of its two members doesn't exist.
-fn random_event(numbers: &mut Numbers) -> Event {
+fn random_event(numbers: &mut RandomNumbers) -> Event {
     let programme = ProgrammeNo(numbers.below(PROGRAMMES + 1).min(numbers.below(30)));
     let resident = ResidentNo(numbers.below(RESIDENTS));
     let kind = match numbers.below(3) {
@@ -115,7 +125,7 @@ fn random_event(numbers: &mut Numbers) -> Event {
 }
 
 /// A random event; in about one of three cases one that may follow.
-fn next_event(numbers: &mut Numbers, run: &Run) -> Event {
+fn next_event(numbers: &mut RandomNumbers, run: &Run) -> Event {
     if numbers.below(3) > 0 {
         return random_event(numbers);
     }
@@ -124,16 +134,16 @@ fn next_event(numbers: &mut Numbers, run: &Run) -> Event {
 
 /// Whether the core and the slow definitions agree about an event. If the event may follow, it is entered and added
 /// to the list.
-fn agrees_once(run: &mut Run, cap: Capacity, list: &mut Vec<Event>, event: Event) -> bool {
+fn agrees_once(run: &mut Run, cap: Capacity, journal: &mut Vec<Event>, event: Event) -> bool {
     let same_event = event;
     let event_to_add = event;
-    let slow = slow::refusal(&run.inst, cap, list.as_slice(), event);
-    let is_free = slow.is_none();
-    if !slow::is_same(run.step(same_event), slow) {
+    let slow_refusal = slow::refusal(&run.inst, cap, journal.as_slice(), event);
+    let may_follow = slow_refusal.is_none();
+    if !slow::is_same(run.step(same_event), slow_refusal) {
         return false;
     }
-    if is_free {
-        let Ok(()) = list.push(event_to_add) else {
+    if may_follow {
+        let Ok(()) = journal.push(event_to_add) else {
             return false;
         };
     }
@@ -142,16 +152,16 @@ fn agrees_once(run: &mut Run, cap: Capacity, list: &mut Vec<Event>, event: Event
 
 /// Whether the core and the slow definitions agree about each of `turns` events that are tried one after another.
 fn agrees_along(
-    numbers: &mut Numbers,
+    numbers: &mut RandomNumbers,
     alloc: Global,
     run: &mut Run,
     cap: Capacity,
     turns: u32,
 ) -> bool {
-    let mut list = Vec::new(alloc);
+    let mut journal = Vec::new(alloc);
     for _ in 0..turns {
         let event = next_event(numbers, run);
-        if !agrees_once(run, cap, &mut list, event) {
+        if !agrees_once(run, cap, &mut journal, event) {
             return false;
         }
     }
@@ -160,7 +170,7 @@ fn agrees_along(
 
 /// Whether the core and the slow definitions agree about each of `turns` events that are tried on a random instance.
 pub(super) fn agrees(alloc: Global, seed: u32, cap: Capacity, turns: u32) -> bool {
-    let mut numbers = Numbers { last: seed };
+    let mut numbers = RandomNumbers { last_number: seed };
     let Ok(inst) = random_instance(&mut numbers, alloc) else {
         return false;
     };

@@ -2,39 +2,43 @@
 use std::io;
 use std::io::{Read, Write};
 
-/// A reader that gives its text byte by byte up to `cut` bytes, and then an error of this kind.
+/// A reader that gives its text byte by byte up to `good_bytes` bytes, and then an error of this kind.
 #[derive(Drop)]
 pub(crate) struct CutReader<'a> {
     text: &'a [u8],
-    at: usize,
-    cut: usize,
-    kind: io::ErrorKind,
+    position: usize,
+    good_bytes: usize,
+    error_kind: io::ErrorKind,
 }
 
 impl<'a> CutReader<'a> {
-    pub(crate) fn new(text: &'a [u8], cut: usize) -> CutReader<'a> {
-        CutReader::failing(text, cut, io::ErrorKind::BrokenPipe)
+    pub(crate) fn new(text: &'a [u8], good_bytes: usize) -> CutReader<'a> {
+        CutReader::failing(text, good_bytes, io::ErrorKind::BrokenPipe)
     }
 
-    pub(crate) fn failing(text: &'a [u8], cut: usize, kind: io::ErrorKind) -> CutReader<'a> {
+    pub(crate) fn failing(
+        text: &'a [u8],
+        good_bytes: usize,
+        error_kind: io::ErrorKind,
+    ) -> CutReader<'a> {
         CutReader {
             text,
-            at: 0,
-            cut,
-            kind,
+            position: 0,
+            good_bytes,
+            error_kind,
         }
     }
 }
 
 impl<'a> Read for CutReader<'a> {
     fn read(&mut self, buf: &mut [u8]) -> io::Result<usize> {
-        if self.at >= self.cut {
-            return Err(io::Error::from(self.kind));
+        if self.position >= self.good_bytes {
+            return Err(io::Error::from(self.error_kind));
         }
-        match (self.text.get(self.at), buf.first_mut()) {
-            (Some(byte), Some(place)) => {
-                *place = *byte;
-                self.at = self.at.saturating_add(1);
+        match (self.text.get(self.position), buf.first_mut()) {
+            (Some(byte), Some(target)) => {
+                *target = *byte;
+                self.position = self.position.saturating_add(1);
                 Ok(1)
             }
             _ => Ok(0),
@@ -42,38 +46,38 @@ impl<'a> Read for CutReader<'a> {
     }
 }
 
-/// A reader that gives its text byte by byte, and is interrupted once before each group of `every` bytes.
+/// A reader that gives its text byte by byte, and is interrupted once before each group of `interval` bytes.
 #[derive(Drop)]
 pub(crate) struct InterruptedReader<'a> {
     text: &'a [u8],
-    at: usize,
-    every: usize,
+    position: usize,
+    interval: usize,
     // How many reads come before the next interruption.
-    left: usize,
+    reads_left: usize,
 }
 
 impl<'a> InterruptedReader<'a> {
-    pub(crate) fn new(text: &'a [u8], every: usize) -> InterruptedReader<'a> {
+    pub(crate) fn new(text: &'a [u8], interval: usize) -> InterruptedReader<'a> {
         InterruptedReader {
             text,
-            at: 0,
-            every,
-            left: 0,
+            position: 0,
+            interval,
+            reads_left: 0,
         }
     }
 }
 
 impl<'a> Read for InterruptedReader<'a> {
     fn read(&mut self, buf: &mut [u8]) -> io::Result<usize> {
-        if self.left == 0 {
-            self.left = self.every;
+        if self.reads_left == 0 {
+            self.reads_left = self.interval;
             return Err(io::Error::from(io::ErrorKind::Interrupted));
         }
-        self.left -= 1;
-        match (self.text.get(self.at), buf.first_mut()) {
-            (Some(byte), Some(room)) => {
-                *room = *byte;
-                self.at = self.at.saturating_add(1);
+        self.reads_left -= 1;
+        match (self.text.get(self.position), buf.first_mut()) {
+            (Some(byte), Some(target)) => {
+                *target = *byte;
+                self.position = self.position.saturating_add(1);
                 Ok(1)
             }
             _ => Ok(0),
@@ -81,33 +85,36 @@ impl<'a> Read for InterruptedReader<'a> {
     }
 }
 
-/// A writer that accepts three bytes in each call, and fails at the call after `good` calls.
+/// A writer that accepts three bytes in each call, and fails at the call after `good_calls` calls.
 #[derive(Drop)]
 pub(crate) struct CutWriter {
-    got: Vec<u8>,
-    good: usize,
+    accepted: Vec<u8>,
+    good_calls: usize,
 }
 
 impl CutWriter {
-    pub(crate) fn new(got: Vec<u8>, good: usize) -> CutWriter {
-        CutWriter { got, good }
+    pub(crate) fn new(accepted: Vec<u8>, good_calls: usize) -> CutWriter {
+        CutWriter {
+            accepted,
+            good_calls,
+        }
     }
 
     /// The bytes accepted so far.
-    pub(crate) fn got(&self) -> &[u8] {
-        self.got.as_slice()
+    pub(crate) fn accepted(&self) -> &[u8] {
+        self.accepted.as_slice()
     }
 }
 
 impl Write for CutWriter {
     fn write(&mut self, buf: &[u8]) -> io::Result<usize> {
-        if self.good == 0 {
+        if self.good_calls == 0 {
             return Err(io::Error::from(io::ErrorKind::BrokenPipe));
         }
-        self.good -= 1;
-        let most = buf.len().min(3);
-        self.got.extend_from_slice(&buf[..most])?;
-        Ok(most)
+        self.good_calls -= 1;
+        let accepted_count = buf.len().min(3);
+        self.accepted.extend_from_slice(&buf[..accepted_count])?;
+        Ok(accepted_count)
     }
 
     fn flush(&mut self) -> io::Result<()> {

@@ -1,5 +1,5 @@
 //! Each fault of a docket, in a docket with this fault alone.
-use super::{first_wrong, first_wrong_of_version_2, is_told};
+use super::{first_wrong_line, first_wrong_line_of_version_2, has_outcome};
 use docket::DocketFault;
 use std::test::Fail;
 
@@ -150,8 +150,8 @@ C,0007 E,take,x,a E,hear,a,x,decline Q,a,0 R,x = read";
 #[test]
 fn faults_of_one_record(rt: HostRuntime) -> Result<(), Fail> {
     for lines in [KINDS, COUNTS, NAMES, NUMBERS_AND_WORDS] {
-        assert!(rt; first_wrong(rt.alloc(), lines)? == None);
-        assert!(rt; first_wrong_of_version_2(rt.alloc(), lines)? == None);
+        assert!(rt; first_wrong_line(rt.alloc(), lines)? == None);
+        assert!(rt; first_wrong_line_of_version_2(rt.alloc(), lines)? == None);
     }
     Ok(())
 }
@@ -159,8 +159,8 @@ fn faults_of_one_record(rt: HostRuntime) -> Result<(), Fail> {
 #[test]
 fn faults_among_records(rt: HostRuntime) -> Result<(), Fail> {
     for lines in [WORKERS, ROWS_BEFORE, LISTS, SHEETS, EVENTS] {
-        assert!(rt; first_wrong(rt.alloc(), lines)? == None);
-        assert!(rt; first_wrong_of_version_2(rt.alloc(), lines)? == None);
+        assert!(rt; first_wrong_line(rt.alloc(), lines)? == None);
+        assert!(rt; first_wrong_line_of_version_2(rt.alloc(), lines)? == None);
     }
     Ok(())
 }
@@ -171,7 +171,7 @@ fn faults_without_a_record(rt: HostRuntime) -> Result<(), Fail> {
         (DocketFault::Memory, "out of memory"),
         (DocketFault::Write, "the output could not be written"),
     ] {
-        assert!(rt; is_told(rt.alloc(), Err(fault), text)?, "{text}");
+        assert!(rt; has_outcome(rt.alloc(), Err(fault), text)?, "{text}");
     }
     Ok(())
 }

@@ -1,11 +1,11 @@
 //! The same docket in many forms, fields that are not names, and a reader that fails.
-use super::{first_wrong, is_told, read, read_slowly};
-use crate::texts::SMALL;
+use super::{first_wrong_line, has_outcome, read, read_slowly};
+use crate::texts::SMALL_DOCKET;
 use docket::{Docket, DocketFault, read_docket};
 use match_model::{Instance, ProgrammeNo, ResidentNo};
 use std::test::Fail;
 use test_support::events::{A, B, X, Y};
-use test_support::members::{is_programme, is_resident};
+use test_support::members::{has_list, has_quota_and_list};
 
 // Lines that end with CR and LF, a blank line, and quotes.
 const CR_AND_LF: &str = "Q,\"a\",1\r\nQ,b,1\r\n\r\nP,a,x,y\r\nP,b,y,x\r\nR,x,b,a\r\nR,y,a,b\r\n";
@@ -20,7 +20,7 @@ const MARK_AND_BLANKS: &str =
 const QUOTES: &str =
     "\"Q\",\"a\",\"1\"\n\"Q\",b,\"1\"\n\"P\",a,x,\"y\"\nP,b,y,x\n\"R\",\"x\",b,a\nR,\"y\",a,b\n";
 
-// Numbers with leading zeros, and rows in another order than in `SMALL`.
+// Numbers with leading zeros, and rows in another order than in `SMALL_DOCKET`.
 const ANOTHER_ORDER: &str = "R,x,b,a\nP,b,y,x\nQ,a,01\nR,y,a,b\nP,a,x,y\nQ,b,000000001\n";
 
 // Whether a programme of the docket has this name.
@@ -33,7 +33,7 @@ fn is_resident_named(docket: &Docket, resident: ResidentNo, name: &str) -> bool 
     resident.0 < docket.instance().residents() && docket.resident_name(resident) == name
 }
 
-// Whether the docket's names are those of `SMALL`.
+// Whether the docket's names are those of `SMALL_DOCKET`.
 fn has_small_names(docket: &Docket) -> bool {
     is_programme_named(docket, A, "a")
         && is_programme_named(docket, B, "b")
@@ -41,18 +41,18 @@ fn has_small_names(docket: &Docket) -> bool {
         && is_resident_named(docket, Y, "y")
 }
 
-// Whether the instance is the instance of `SMALL`.
+// Whether the instance is the instance of `SMALL_DOCKET`.
 fn is_small_instance(instance: &Instance) -> bool {
     instance.programmes() == 2
         && instance.residents() == 2
-        && is_programme(instance, A, 1, &[X, Y])
-        && is_programme(instance, B, 1, &[Y, X])
-        && is_resident(instance, X, &[B, A])
-        && is_resident(instance, Y, &[A, B])
+        && has_quota_and_list(instance, A, 1, &[X, Y])
+        && has_quota_and_list(instance, B, 1, &[Y, X])
+        && has_list(instance, X, &[B, A])
+        && has_list(instance, Y, &[A, B])
 }
 
-// Whether the docket that was read is the docket of `SMALL`.
-fn is_small(answer: Result<Docket, DocketFault>) -> bool {
+// Whether the docket that was read is the docket of `SMALL_DOCKET`.
+fn is_small_docket(answer: Result<Docket, DocketFault>) -> bool {
     match answer {
         Ok(docket) => has_small_names(&docket) && is_small_instance(docket.instance()),
         Err(_) => false,
@@ -62,16 +62,16 @@ fn is_small(answer: Result<Docket, DocketFault>) -> bool {
 #[test]
 fn one_docket_in_many_forms(rt: HostRuntime) {
     for form in [
-        SMALL,
+        SMALL_DOCKET,
         CR_AND_LF,
         CR_ALONE,
         MARK_AND_BLANKS,
         QUOTES,
         ANOTHER_ORDER,
     ] {
-        assert!(rt; is_small(read(rt.alloc(), form)), "{form}");
+        assert!(rt; is_small_docket(read(rt.alloc(), form)), "{form}");
         assert!(rt;
-            is_small(read_slowly(rt.alloc(), form, usize::MAX)),
+            is_small_docket(read_slowly(rt.alloc(), form, usize::MAX)),
             "{form}"
         );
     }
@@ -109,17 +109,17 @@ const BYTES: [(&[u8], &str); 5] = [
 
 #[test]
 fn fields_that_are_no_names(rt: HostRuntime) -> Result<(), Fail> {
-    assert!(rt; first_wrong(rt.alloc(), FORMS)? == None);
+    assert!(rt; first_wrong_line(rt.alloc(), FORMS)? == None);
     for (input, wanted) in BYTES {
         assert!(rt;
-            is_told(rt.alloc(), read_docket(&rt, rt.alloc(), input), wanted)?,
+            has_outcome(rt.alloc(), read_docket(&rt, rt.alloc(), input), wanted)?,
             "{wanted}"
         );
     }
     Ok(())
 }
 
-// Numbers of bytes of `SMALL` after which a reader fails, each with the number of the unfinished record.
+// Numbers of bytes of `SMALL_DOCKET` after which a reader fails, each with the number of the unfinished record.
 const CUTS: [(usize, u32); 9] = [
     (0, 1),
     (5, 1),
@@ -134,9 +134,12 @@ const CUTS: [(usize, u32); 9] = [
 
 #[test]
 fn a_reader_that_fails(rt: HostRuntime) {
-    for (cut, place) in CUTS {
-        let answer = read_slowly(rt.alloc(), SMALL, cut);
-        assert!(rt; answer.err() == Some(DocketFault::Read { place }), "{cut}");
+    for (good_bytes, place) in CUTS {
+        let answer = read_slowly(rt.alloc(), SMALL_DOCKET, good_bytes);
+        assert!(rt;
+            answer.err() == Some(DocketFault::Read { place }),
+            "{good_bytes}"
+        );
     }
     // a fault in a record before the reader's failure is reported first
     let answer = read_slowly(rt.alloc(), "Q,a,1\nZ\nQ,b,1\n", 9);

@@ -1,9 +1,9 @@
 //! Dockets at each limit, and dockets one beyond it.
 mod national;
 
-use super::{read, tells};
+use super::{read, reads_as};
 use crate::commands::{MATCH, serves};
-use crate::markets::{push_all, push_lists};
+use crate::markets::{push_all_numbered, push_lists};
 use docket::DocketFault;
 use match_model::ModelFault;
 use residency::ServeFault;
@@ -11,70 +11,75 @@ use std::alloc::{AllocError, Global};
 use std::test::Fail;
 
 // The end of the record of a resident who ranks all ten programmes, the last programme first.
-const TEN: &str = ",p9,p8,p7,p6,p5,p4,p3,p2,p1,p0\n";
+const TEN_RANKED: &str = ",p9,p8,p7,p6,p5,p4,p3,p2,p1,p0\n";
 
-// The text of `count` records, which are alike but for a rising number.
-fn numbered(alloc: Global, start: &str, count: u32, end: &str) -> Result<String, AllocError> {
+// The text of `record_count` records, which are alike but for a rising number.
+fn numbered(
+    alloc: Global,
+    prefix: &str,
+    record_count: u32,
+    suffix: &str,
+) -> Result<String, AllocError> {
     let mut text = String::new(alloc);
-    push_all(&mut text, alloc, start, count, end)?;
+    push_all_numbered(&mut text, alloc, prefix, record_count, suffix)?;
     Ok(text)
 }
 
 // A docket of ten programmes and 20,000 residents who all rank each other. The records of the last resident are in
-// `last`.
-fn ranked(alloc: Global, last: &str) -> Result<String, AllocError> {
+// `last_records`.
+fn ranked_docket(alloc: Global, last_records: &str) -> Result<String, AllocError> {
     let mut text = numbered(alloc, "Q,p", 10, ",1\n")?;
     push_lists(&mut text, alloc)?;
-    push_all(&mut text, alloc, "R,r", 19_999, TEN)?;
-    text.push_str(last)?;
+    push_all_numbered(&mut text, alloc, "R,r", 19_999, TEN_RANKED)?;
+    text.push_str(last_records)?;
     Ok(text)
 }
 
 // A docket of this many records: the row of a capacity, and then closes.
-fn closes(alloc: Global, records: u32) -> Result<String, AllocError> {
+fn docket_of_closes(alloc: Global, record_count: u32) -> Result<String, AllocError> {
     let mut text = String::new(alloc);
     text.push_str("C,full\n")?;
-    for _ in 1..records {
+    for _ in 1..record_count {
         text.push_str("E,close\n")?;
     }
     Ok(text)
 }
 
-// A docket with the greatest number of programmes, and with the records in `last`.
-fn most_programmes_and(alloc: Global, last: &str) -> Result<String, AllocError> {
+// A docket with the greatest number of programmes, and with the records in `last_records`.
+fn most_programmes_and(alloc: Global, last_records: &str) -> Result<String, AllocError> {
     let mut text = numbered(alloc, "Q,p", 2_000, ",10000\n")?;
-    text.push_str(last)?;
+    text.push_str(last_records)?;
     Ok(text)
 }
 
 #[test]
 fn programmes(rt: HostRuntime) -> Result<(), Fail> {
     // the quota is tested after the number of programmes, and a repeated name before both
-    for (last, wanted) in [
+    for (last_records, wanted) in [
         ("", "read"),
         ("Q,q,10001\n", "record 2001: more than 2000 programmes"),
         ("Q,p0,10001\n", "record 2001: declared twice"),
     ] {
-        let text = most_programmes_and(rt.alloc(), last)?;
-        assert!(rt; tells(rt.alloc(), &[text.as_str()], wanted)?, "{wanted}");
+        let text = most_programmes_and(rt.alloc(), last_records)?;
+        assert!(rt; reads_as(rt.alloc(), &[text.as_str()], wanted)?, "{wanted}");
     }
     Ok(())
 }
 
 #[test]
 fn residents(rt: HostRuntime) -> Result<(), Fail> {
-    for (count, wanted) in [
+    for (record_count, wanted) in [
         (20_000, "read"),
         (20_001, "record 20001: more than 20000 residents"),
     ] {
-        let text = numbered(rt.alloc(), "R,r", count, "\n")?;
-        assert!(rt; tells(rt.alloc(), &[text.as_str()], wanted)?, "{wanted}");
+        let text = numbered(rt.alloc(), "R,r", record_count, "\n")?;
+        assert!(rt; reads_as(rt.alloc(), &[text.as_str()], wanted)?, "{wanted}");
     }
     Ok(())
 }
 
 // How many pairs are acceptable in the docket with this text; none if it is no docket.
-fn pairs(alloc: Global, input: &str) -> Option<u32> {
+fn acceptable_pairs(alloc: Global, input: &str) -> Option<u32> {
     match read(alloc, input) {
         Ok(docket) => Some(docket.instance().pairs()),
         Err(_) => None,
@@ -83,8 +88,8 @@ fn pairs(alloc: Global, input: &str) -> Option<u32> {
 
 #[test]
 fn most_pairs(rt: HostRuntime) -> Result<(), Fail> {
-    let text = ranked(rt.alloc(), "R,r19999,p9,p8,p7,p6,p5,p4,p3,p2,p1,p0\n")?;
-    assert!(rt; pairs(rt.alloc(), text.as_str()) == Some(200_000));
+    let text = ranked_docket(rt.alloc(), "R,r19999,p9,p8,p7,p6,p5,p4,p3,p2,p1,p0\n")?;
+    assert!(rt; acceptable_pairs(rt.alloc(), text.as_str()) == Some(200_000));
     Ok(())
 }
 
@@ -94,9 +99,9 @@ const ELEVENTH: &str =
 
 #[test]
 fn one_pair_too_many(rt: HostRuntime) -> Result<(), Fail> {
-    let text = ranked(rt.alloc(), ELEVENTH)?;
+    let text = ranked_docket(rt.alloc(), ELEVENTH)?;
     let wanted = "record 20023: more than 200000 acceptable pairs";
-    assert!(rt; tells(rt.alloc(), &[text.as_str()], wanted)?);
+    assert!(rt; reads_as(rt.alloc(), &[text.as_str()], wanted)?);
     Ok(())
 }
 
@@ -106,28 +111,28 @@ fn quotas(rt: HostRuntime) -> Result<(), Fail> {
         ("Q,a,10000\n", "read"),
         ("Q,a,10001\n", "record 1: quota over 10000"),
     ] {
-        assert!(rt; tells(rt.alloc(), &[input], wanted)?, "{wanted}");
+        assert!(rt; reads_as(rt.alloc(), &[input], wanted)?, "{wanted}");
     }
     Ok(())
 }
 
 #[test]
 fn most_records(rt: HostRuntime) -> Result<(), Fail> {
-    let text = closes(rt.alloc(), 2_000_000)?;
-    assert!(rt; tells(rt.alloc(), &[text.as_str()], "read")?);
+    let text = docket_of_closes(rt.alloc(), 2_000_000)?;
+    assert!(rt; reads_as(rt.alloc(), &[text.as_str()], "read")?);
     Ok(())
 }
 
 #[test]
 fn one_record_too_many(rt: HostRuntime) -> Result<(), Fail> {
-    let text = closes(rt.alloc(), 2_000_001)?;
+    let text = docket_of_closes(rt.alloc(), 2_000_001)?;
     let wanted = "record 2000001: more than 2000000 records";
-    assert!(rt; tells(rt.alloc(), &[text.as_str()], wanted)?);
+    assert!(rt; reads_as(rt.alloc(), &[text.as_str()], wanted)?);
     Ok(())
 }
 
 // For each limit, the fault of the docket that goes beyond it.
-const BEYOND: [DocketFault; 5] = [
+const FAULTS_BEYOND: [DocketFault; 5] = [
     DocketFault::Model {
         place: 2_001,
         fault: ModelFault::TooManyProgrammes,
@@ -147,21 +152,21 @@ const BEYOND: [DocketFault; 5] = [
     DocketFault::TooManyRecords { place: 2_000_001 },
 ];
 
-// The docket that goes beyond the limit with this index in `BEYOND`.
-fn beyond(alloc: Global, limit: usize) -> Result<String, AllocError> {
+// The docket that goes beyond the limit with this index in `FAULTS_BEYOND`.
+fn docket_beyond(alloc: Global, limit: usize) -> Result<String, AllocError> {
     match limit {
         0 => most_programmes_and(alloc, "Q,q,10000\n"),
         1 => numbered(alloc, "R,r", 20_001, "\n"),
-        2 => ranked(alloc, ELEVENTH),
+        2 => ranked_docket(alloc, ELEVENTH),
         3 => numbered(alloc, "Q,q", 1, ",10001\n"),
-        _ => closes(alloc, 2_000_001),
+        _ => docket_of_closes(alloc, 2_000_001),
     }
 }
 
 #[test]
 fn none_is_matched_beyond(rt: HostRuntime) -> Result<(), Fail> {
-    for (limit, fault) in BEYOND.iter().enumerate() {
-        let text = beyond(rt.alloc(), limit)?;
+    for (limit, fault) in FAULTS_BEYOND.iter().enumerate() {
+        let text = docket_beyond(rt.alloc(), limit)?;
         let expected = (Err(ServeFault::Docket(*fault)), "", 3);
         assert!(rt;
             serves(rt, rt.alloc(), MATCH, &[text.as_str()], expected)?,

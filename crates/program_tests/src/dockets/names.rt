@@ -1,27 +1,33 @@
 //! Names that begin alike, and a machine without random bytes for hashing names.
-use super::{is_told, tells};
-use crate::texts::SMALL;
+use super::{has_outcome, reads_as};
+use crate::texts::SMALL_DOCKET;
 use docket::read_docket;
 use std::test::Fail;
 use test_support::randomness::NoRandomness;
 
 // Names each of which begins with the name before it, or differs from that name only in its last byte.
-const ALIKE: &str =
+const ALIKE_RESIDENTS: &str =
     "R,abcdefg\nR,abcdefgh\nR,abcdefgi\nR,abcdefghi\nR,abcdefghj\nR,abcdefghijklmnop\nR,abcdefghijklmnoq\nR,abcdefghijklmnopq\nR,abcdefghijklmnopqrstuvwxyz01234\nR,abcdefghijklmnopqrstuvwxyz012345\nR,abcdefghijklmnopqrstuvwxyz012346\n";
 
-const LONGEST_AGAIN: &str = "R,abcdefghijklmnopqrstuvwxyz012345\n";
+const LONGEST_NAME_AGAIN: &str = "R,abcdefghijklmnopqrstuvwxyz012345\n";
 
 #[test]
 fn names_alike_in_front(rt: HostRuntime) -> Result<(), Fail> {
     let alloc = rt.alloc();
-    assert!(rt; tells(alloc, &[ALIKE], "read")?);
-    assert!(rt; tells(alloc, &[ALIKE, LONGEST_AGAIN], "record 12: declared twice")?);
+    assert!(rt; reads_as(alloc, &[ALIKE_RESIDENTS], "read")?);
+    assert!(rt;
+        reads_as(
+            alloc,
+            &[ALIKE_RESIDENTS, LONGEST_NAME_AGAIN],
+            "record 12: declared twice"
+        )?
+    );
     Ok(())
 }
 
 #[test]
 fn no_randomness(rt: HostRuntime) -> Result<(), Fail> {
-    let answer = read_docket(&NoRandomness, rt.alloc(), SMALL.as_bytes());
-    assert!(rt; is_told(rt.alloc(), answer, "record 1: the input could not be read")?);
+    let answer = read_docket(&NoRandomness, rt.alloc(), SMALL_DOCKET.as_bytes());
+    assert!(rt; has_outcome(rt.alloc(), answer, "record 1: the input could not be read")?);
     Ok(())
 }

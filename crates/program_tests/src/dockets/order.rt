@@ -1,5 +1,5 @@
 //! Dockets with two faults, and which of the two is reported.
-use super::{first_wrong, first_wrong_of_version_2};
+use super::{first_wrong_line, first_wrong_line_of_version_2};
 use std::test::Fail;
 
 // Two faults in the same record. A wrong number of fields is reported before a bad name, and a bad name before a bad
@@ -65,8 +65,8 @@ Q,a,1 R,x F,a,1,1 M,x,a C,full = read";
 #[test]
 fn two_faults(rt: HostRuntime) -> Result<(), Fail> {
     for lines in [ONE_RECORD, ONE_PASS, EARLIER_PASS, WALKS] {
-        assert!(rt; first_wrong(rt.alloc(), lines)? == None);
-        assert!(rt; first_wrong_of_version_2(rt.alloc(), lines)? == None);
+        assert!(rt; first_wrong_line(rt.alloc(), lines)? == None);
+        assert!(rt; first_wrong_line_of_version_2(rt.alloc(), lines)? == None);
     }
     Ok(())
 }

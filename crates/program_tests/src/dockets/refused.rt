@@ -1,7 +1,9 @@
 //! Dockets with a fault, or with a part missing. Each command reports the fault or the missing
 //! part, and writes nothing.
 use crate::commands::{MATCH, serves, serves_both};
-use crate::texts::{CLOSE, FULL, SMALL, SMALL_SHEET, THREE, VERSION_2};
+use crate::texts::{
+    CLOSE_EVENT, FULL_CAPACITY, SMALL_DOCKET, SMALL_SHEET, THREE_RECORDS, VERSION_2,
+};
 use docket::DocketFault;
 use match_model::ModelFault;
 use residency::{Order, ServeFault, Status};
@@ -18,7 +20,7 @@ const FAULTS: [(&[&str], DocketFault); 17] = [
     (&["Q,a,1\nQ,a,2\n"], DocketFault::DeclaredTwice { place: 2 }),
     (&["Q,a,1\nP,b\n"], DocketFault::UnknownName { place: 2 }),
     (&["M,x,a\n"], DocketFault::UnknownName { place: 1 }),
-    (&[CLOSE], DocketFault::BadEvent { place: 1 }),
+    (&[CLOSE_EVENT], DocketFault::BadEvent { place: 1 }),
     (
         &["Q,a,1\nR,x,a\nF,a,0,1\n"],
         DocketFault::BadSheet { place: 3 },
@@ -31,21 +33,21 @@ const FAULTS: [(&[&str], DocketFault); 17] = [
         },
     ),
     (
-        &[SMALL, "M,x,a\nM,y,b\nF,a,2,1\nF,b,1,1\n"],
+        &[SMALL_DOCKET, "M,x,a\nM,y,b\nF,a,2,1\nF,b,1,1\n"],
         DocketFault::BadSheet { place: 9 },
     ),
     (
-        &[SMALL, SMALL_SHEET, FULL, "E,offer,a,z\n"],
+        &[SMALL_DOCKET, SMALL_SHEET, FULL_CAPACITY, "E,offer,a,z\n"],
         DocketFault::UnknownName { place: 12 },
     ),
     (&["Q,a"], DocketFault::FieldCount { place: 1 }),
-    (&[THREE], DocketFault::UnknownName { place: 3 }),
+    (&[THREE_RECORDS], DocketFault::UnknownName { place: 3 }),
     (
-        &[THREE, "P,b,y,x\nR,x,b,"],
+        &[THREE_RECORDS, "P,b,y,x\nR,x,b,"],
         DocketFault::BadName { place: 5 },
     ),
     (
-        &[THREE, "P,b,y,x\nR,x,b,a"],
+        &[THREE_RECORDS, "P,b,y,x\nR,x,b,a"],
         DocketFault::UnknownName { place: 3 },
     ),
 ];
@@ -70,7 +72,7 @@ fn tells_what_a_docket_lacks(rt: HostRuntime) -> Result<(), Fail> {
         (Order::Audit, ServeFault::NoSheet),
         (Order::Replay, ServeFault::NoJournal),
     ] {
-        assert!(rt; serves_both(rt, rt.alloc(), order, &[SMALL], (Err(fault), "", 3))?);
+        assert!(rt; serves_both(rt, rt.alloc(), order, &[SMALL_DOCKET], (Err(fault), "", 3))?);
     }
     Ok(())
 }
@@ -80,19 +82,19 @@ const CUTS: [(&[&str], DocketFault); 6] = [
     (&["V"], DocketFault::FieldCount { place: 1 }),
     (&["V,"], DocketFault::BadVersion { place: 1 }),
     (
-        &[VERSION_2, SMALL, "W"],
+        &[VERSION_2, SMALL_DOCKET, "W"],
         DocketFault::FieldCount { place: 8 },
     ),
     (
-        &[VERSION_2, SMALL, "W,"],
+        &[VERSION_2, SMALL_DOCKET, "W,"],
         DocketFault::FieldCount { place: 8 },
     ),
     (
-        &[VERSION_2, SMALL, "W,P"],
+        &[VERSION_2, SMALL_DOCKET, "W,P"],
         DocketFault::FieldCount { place: 8 },
     ),
     (
-        &[VERSION_2, SMALL, "W,P,"],
+        &[VERSION_2, SMALL_DOCKET, "W,P,"],
         DocketFault::BadName { place: 8 },
     ),
 ];
@@ -108,7 +110,7 @@ fn cuts_of_version_2(rt: HostRuntime) -> Result<(), Fail> {
     for (texts, sheet) in [
         (&["V,2"] as &[&str], ""),
         (
-            &[VERSION_2, SMALL, "W,P,b"],
+            &[VERSION_2, SMALL_DOCKET, "W,P,b"],
             "M,x,a\nU,y\nF,a,1,1\nF,b,0,1\n",
         ),
     ] {

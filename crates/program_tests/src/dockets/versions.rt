@@ -1,6 +1,6 @@
 //! Dockets of version 2: their faults, and which members they withdraw.
-use super::{first_wrong, read};
-use crate::texts::{SMALL, VERSION_2, joined};
+use super::{first_wrong_line, read};
+use crate::texts::{SMALL_DOCKET, VERSION_2, joined};
 use match_model::{Instance, ProgrammeNo, ResidentNo};
 use std::alloc::{AllocError, Global};
 use std::test::Fail;
@@ -58,32 +58,32 @@ V,2 Q,a,1 R,x W,R,x F,a,0,1 = record 5: bad sheet";
 #[test]
 fn faults_of_version_2(rt: HostRuntime) -> Result<(), Fail> {
     for lines in [VERSIONS, WITHDRAWALS, AMONG_RECORDS] {
-        assert!(rt; first_wrong(rt.alloc(), lines)? == None);
+        assert!(rt; first_wrong_line(rt.alloc(), lines)? == None);
     }
     Ok(())
 }
 
 // Whether the instance says of this programme, as expected, whether it is withdrawn.
-fn is_programme_gone(instance: &Instance, programme: ProgrammeNo, withdrawn: bool) -> bool {
-    programme.0 < instance.programmes() && instance.programme_withdrawn(programme) == withdrawn
+fn agrees_on_programme(instance: &Instance, programme: ProgrammeNo, is_withdrawn: bool) -> bool {
+    programme.0 < instance.programmes() && instance.programme_withdrawn(programme) == is_withdrawn
 }
 
 // Whether the instance says of this resident, as expected, whether the resident is withdrawn.
-fn is_resident_gone(instance: &Instance, resident: ResidentNo, withdrawn: bool) -> bool {
-    resident.0 < instance.residents() && instance.resident_withdrawn(resident) == withdrawn
+fn agrees_on_resident(instance: &Instance, resident: ResidentNo, is_withdrawn: bool) -> bool {
+    resident.0 < instance.residents() && instance.resident_withdrawn(resident) == is_withdrawn
 }
 
 // Whether exactly these members are withdrawn if these rows stand at the end of the small docket of
 // version 2.
-fn withdraws(alloc: Global, rows: &str, gone: [bool; 4]) -> Result<bool, AllocError> {
-    let text = joined(alloc, &[VERSION_2, SMALL, rows])?;
-    let [a, b, x, y] = gone;
+fn withdraws(alloc: Global, rows: &str, withdrawn_members: [bool; 4]) -> Result<bool, AllocError> {
+    let text = joined(alloc, &[VERSION_2, SMALL_DOCKET, rows])?;
+    let [a_withdrawn, b_withdrawn, x_withdrawn, y_withdrawn] = withdrawn_members;
     match read(alloc, text.as_str()) {
         Ok(docket) => Ok(
-            is_programme_gone(docket.instance(), A, a)
-                && is_programme_gone(docket.instance(), B, b)
-                && is_resident_gone(docket.instance(), X, x)
-                && is_resident_gone(docket.instance(), Y, y),
+            agrees_on_programme(docket.instance(), A, a_withdrawn)
+                && agrees_on_programme(docket.instance(), B, b_withdrawn)
+                && agrees_on_resident(docket.instance(), X, x_withdrawn)
+                && agrees_on_resident(docket.instance(), Y, y_withdrawn),
         ),
         Err(_) => Ok(false),
     }
@@ -91,14 +91,14 @@ fn withdraws(alloc: Global, rows: &str, gone: [bool; 4]) -> Result<bool, AllocEr
 
 #[test]
 fn who_is_withdrawn(rt: HostRuntime) -> Result<(), Fail> {
-    for (rows, gone) in [
+    for (rows, withdrawn_members) in [
         ("", [false, false, false, false]),
         ("W,P,b\n", [false, true, false, false]),
         ("W,R,x\n", [false, false, true, false]),
         ("W,R,y\nW,P,a\n", [true, false, false, true]),
         ("W,P,a\nW,P,b\nW,R,x\nW,R,y\n", [true, true, true, true]),
     ] {
-        assert!(rt; withdraws(rt.alloc(), rows, gone)?, "{rows}");
+        assert!(rt; withdraws(rt.alloc(), rows, withdrawn_members)?, "{rows}");
     }
     Ok(())
 }

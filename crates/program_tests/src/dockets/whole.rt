@@ -1,6 +1,6 @@
 //! A docket with all its parts.
 use super::read;
-use crate::texts::{FULL, OTHER_SHEET, SMALL, SMALL_JOURNAL, joined};
+use crate::texts::{FULL_CAPACITY, OTHER_SHEET, SMALL_DOCKET, SMALL_JOURNAL, joined};
 use docket::{Docket, Journal};
 use exchange_core::Capacity;
 use match_model::Assignment;
@@ -50,8 +50,8 @@ fn parts(alloc: Global, input: &str) -> Option<(Option<u32>, bool)> {
 fn reads_a_docket_whole(rt: HostRuntime) -> Result<(), Fail> {
     // the rows of the three parts, in two different orders
     for texts in [
-        [SMALL, FULL, SMALL_JOURNAL, OTHER_SHEET],
-        [OTHER_SHEET, FULL, SMALL_JOURNAL, SMALL],
+        [SMALL_DOCKET, FULL_CAPACITY, SMALL_JOURNAL, OTHER_SHEET],
+        [OTHER_SHEET, FULL_CAPACITY, SMALL_JOURNAL, SMALL_DOCKET],
     ] {
         assert!(rt; reads_whole(rt.alloc(), texts.as_slice())?);
     }
@@ -62,7 +62,7 @@ fn reads_a_docket_whole(rt: HostRuntime) -> Result<(), Fail> {
 fn reads_what_a_docket_lacks(rt: HostRuntime) {
     // if no member is declared, the sheet has no rows
     for (input, wanted) in [
-        (SMALL, (None, false)),
+        (SMALL_DOCKET, (None, false)),
         ("", (Some(0), false)),
         ("C,7\n", (Some(0), true)),
         ("Q,a,1\nC,7\n", (None, true)),

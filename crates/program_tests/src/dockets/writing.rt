@@ -2,8 +2,8 @@
 use super::read;
 use crate::devices::broken::CutWriter;
 use crate::texts::{
-    CLOSE, EIGHT_BY_TWO, ELEVEN, FULL, OTHER_SHEET, QUOTAS, SMALL, SMALL_JOURNAL, TO_EIGHTEEN,
-    TO_THIRTEEN, joined,
+    CLOSE_EVENT, EIGHT_EVENTS_BY_TWO, ELEVEN_EVENTS, EVENTS_TO_EIGHTEEN, EVENTS_TO_THIRTEEN,
+    FULL_CAPACITY, OTHER_SHEET, QUOTAS_DOCKET, SMALL_DOCKET, SMALL_JOURNAL, joined,
 };
 use docket::{
     Docket, DocketFault, RowWriter, push_programme, room_for_rows, write_journal, write_sheet,
@@ -23,7 +23,7 @@ const CROWDED: &str = "F,a,02,01\nM,x,a\nU,z\nM,y,a\nR,x\nR,y\nR,z\nQ,a,1\n";
 const CROWDED_SHEET: &str = "M,x,a\nM,y,a\nU,z\nF,a,2,1\n";
 
 // Writes the docket's own sheet.
-fn write_own_sheet<W: Write>(
+fn write_docket_sheet<W: Write>(
     alloc: Global,
     docket: &Docket,
     writer: &mut W,
@@ -35,7 +35,7 @@ fn write_own_sheet<W: Write>(
 }
 
 // Writes the docket's own journal.
-fn write_own_journal<W: Write>(
+fn write_docket_journal<W: Write>(
     alloc: Global,
     docket: &Docket,
     writer: &mut W,
@@ -54,21 +54,25 @@ fn write_own_journal<W: Write>(
 }
 
 // Reads a docket, and writes its sheet.
-fn sheet_written<W: Write>(alloc: Global, input: &str, writer: &mut W) -> Result<(), DocketFault> {
-    match read(alloc, input) {
-        Ok(docket) => write_own_sheet(alloc, &docket, writer),
-        Err(fault) => Err(fault),
-    }
-}
-
-// Reads a docket, and writes its journal.
-fn journal_written<W: Write>(
+fn read_and_write_sheet<W: Write>(
     alloc: Global,
     input: &str,
     writer: &mut W,
 ) -> Result<(), DocketFault> {
     match read(alloc, input) {
-        Ok(docket) => write_own_journal(alloc, &docket, writer),
+        Ok(docket) => write_docket_sheet(alloc, &docket, writer),
+        Err(fault) => Err(fault),
+    }
+}
+
+// Reads a docket, and writes its journal.
+fn read_and_write_journal<W: Write>(
+    alloc: Global,
+    input: &str,
+    writer: &mut W,
+) -> Result<(), DocketFault> {
+    match read(alloc, input) {
+        Ok(docket) => write_docket_journal(alloc, &docket, writer),
         Err(fault) => Err(fault),
     }
 }
@@ -76,7 +80,7 @@ fn journal_written<W: Write>(
 // Whether the docket has this journal.
 fn is_journal(docket: &Docket, capacity: Capacity, events: &[Event]) -> bool {
     match docket.journal() {
-        Some(read) => read.capacity == capacity && read.events.as_slice() == events,
+        Some(journal) => journal.capacity == capacity && journal.events.as_slice() == events,
         None => false,
     }
 }
@@ -92,11 +96,12 @@ fn has_journal(alloc: Global, input: &str, capacity: Capacity, events: &[Event])
 // Whether the journal in a docket is written as this text.
 fn writes_journal(alloc: Global, input: &str, journal: &str) -> bool {
     let mut output = Vec::new(alloc);
-    journal_written(alloc, input, &mut output) == Ok(()) && output.as_slice() == journal.as_bytes()
+    read_and_write_journal(alloc, input, &mut output) == Ok(())
+        && output.as_slice() == journal.as_bytes()
 }
 
 // Whether a journal is read both before its members' rows and after them, and is written unchanged.
-fn is_kept(
+fn keeps_journal(
     alloc: Global,
     members: &str,
     rows: &[&str],
@@ -117,40 +122,67 @@ fn is_kept(
 
 #[test]
 fn keeps_journals(rt: HostRuntime) -> Result<(), Fail> {
-    let small = nine_events();
-    let quotas = nineteen_events();
+    let small_events = nine_events();
+    let quotas_events = nineteen_events();
     // events that no legal list has
-    let declines = [
+    let decline_events = [
         answer(X, B, AnswerKind::Decline),
         hear(A, Y, AnswerKind::Decline),
     ];
     let cases: [(&str, &[&str], Capacity, &[Event]); 7] = [
-        (SMALL, &[FULL, SMALL_JOURNAL], Capacity::Full, &small),
-        (SMALL, &["C,7\n", SMALL_JOURNAL], Capacity::Each(7), &small),
         (
-            QUOTAS,
-            &[FULL, ELEVEN, TO_THIRTEEN, TO_EIGHTEEN, CLOSE],
+            SMALL_DOCKET,
+            &[FULL_CAPACITY, SMALL_JOURNAL],
             Capacity::Full,
-            &quotas,
+            &small_events,
         ),
         (
-            QUOTAS,
-            &["C,7\n", ELEVEN, TO_THIRTEEN, TO_EIGHTEEN, CLOSE],
+            SMALL_DOCKET,
+            &["C,7\n", SMALL_JOURNAL],
             Capacity::Each(7),
-            &quotas,
+            &small_events,
         ),
-        ("", &[FULL, CLOSE], Capacity::Full, &[Event::Close]),
+        (
+            QUOTAS_DOCKET,
+            &[
+                FULL_CAPACITY,
+                ELEVEN_EVENTS,
+                EVENTS_TO_THIRTEEN,
+                EVENTS_TO_EIGHTEEN,
+                CLOSE_EVENT,
+            ],
+            Capacity::Full,
+            &quotas_events,
+        ),
+        (
+            QUOTAS_DOCKET,
+            &[
+                "C,7\n",
+                ELEVEN_EVENTS,
+                EVENTS_TO_THIRTEEN,
+                EVENTS_TO_EIGHTEEN,
+                CLOSE_EVENT,
+            ],
+            Capacity::Each(7),
+            &quotas_events,
+        ),
+        (
+            "",
+            &[FULL_CAPACITY, CLOSE_EVENT],
+            Capacity::Full,
+            &[Event::Close],
+        ),
         ("", &["C,1\n"], Capacity::Each(1), &[]),
         (
-            SMALL,
+            SMALL_DOCKET,
             &["C,1024\nE,answer,x,b,decline\nE,hear,a,y,decline\n"],
             Capacity::Each(1024),
-            &declines,
+            &decline_events,
         ),
     ];
     for (members, rows, capacity, events) in cases {
         assert!(rt;
-            is_kept(rt.alloc(), members, rows, capacity, events)?,
+            keeps_journal(rt.alloc(), members, rows, capacity, events)?,
             "{members}"
         );
     }
@@ -161,16 +193,17 @@ fn keeps_journals(rt: HostRuntime) -> Result<(), Fail> {
 // events.
 fn has_workers(alloc: Global, input: &str, workers: u32, who: &[u8]) -> bool {
     match read(alloc, input) {
-        Ok(docket) => is_by(&docket, workers, who),
+        Ok(docket) => is_by_workers(&docket, workers, who),
         Err(_) => false,
     }
 }
 
 // Whether the docket has a journal by this number of workers, with these workers of the events.
-fn is_by(docket: &Docket, workers: u32, who: &[u8]) -> bool {
+fn is_by_workers(docket: &Docket, workers: u32, who: &[u8]) -> bool {
     match docket.journal() {
         Some(journal) => match &journal.by {
-            Some(by) => by.workers == workers && by.who.as_slice() == who,
+            Some(journal_workers) => journal_workers.workers == workers
+                && journal_workers.who.as_slice() == who,
             None => false,
         },
         None => false,
@@ -178,7 +211,7 @@ fn is_by(docket: &Docket, workers: u32, who: &[u8]) -> bool {
 }
 
 // Whether a journal by worker is read with these members' rows, and is written unchanged.
-fn is_kept_by_worker(
+fn keeps_journal_by_worker(
     alloc: Global,
     members: &str,
     journal: &str,
@@ -197,8 +230,8 @@ fn keeps_journals_by_worker(rt: HostRuntime) -> Result<(), Fail> {
     let alloc = rt.alloc();
     let cases: [(&str, &[&str], u32, &[u8]); 4] = [
         (
-            SMALL,
-            &[EIGHT_BY_TWO, "E,close,0\n"],
+            SMALL_DOCKET,
+            &[EIGHT_EVENTS_BY_TWO, "E,close,0\n"],
             2,
             &[0, 1, 0, 1, 0, 1, 0, 1, 0],
         ),
@@ -208,7 +241,7 @@ fn keeps_journals_by_worker(rt: HostRuntime) -> Result<(), Fail> {
     ];
     for (members, rows, workers, who) in cases {
         let journal = joined(alloc, rows)?;
-        assert!(rt; is_kept_by_worker(alloc, members, journal.as_str(), workers, who)?);
+        assert!(rt; keeps_journal_by_worker(alloc, members, journal.as_str(), workers, who)?);
     }
     Ok(())
 }
@@ -217,7 +250,7 @@ fn keeps_journals_by_worker(rt: HostRuntime) -> Result<(), Fail> {
 fn writes_sheets(rt: HostRuntime) {
     for (input, sheet) in [("", ""), (SHUFFLED, OTHER_SHEET), (CROWDED, CROWDED_SHEET)] {
         let mut output = Vec::new(rt.alloc());
-        assert!(rt; sheet_written(rt.alloc(), input, &mut output) == Ok(()));
+        assert!(rt; read_and_write_sheet(rt.alloc(), input, &mut output) == Ok(()));
         assert!(rt; output.as_slice() == sheet.as_bytes(), "{sheet}");
     }
 }
@@ -225,28 +258,28 @@ fn writes_sheets(rt: HostRuntime) {
 #[test]
 fn a_writer_that_fails(rt: HostRuntime) -> Result<(), Fail> {
     let alloc = rt.alloc();
-    let failed = Err(DocketFault::Write);
+    let write_failed = Err(DocketFault::Write);
     // the writer accepts three bytes in each call; the sheet has 28 bytes, and the journal 129
-    for (good, answer) in [(0, failed), (9, failed), (10, Ok(()))] {
-        let mut writer = CutWriter::new(Vec::new(alloc), good);
+    for (good_calls, answer) in [(0, write_failed), (9, write_failed), (10, Ok(()))] {
+        let mut writer = CutWriter::new(Vec::new(alloc), good_calls);
         assert!(rt;
-            sheet_written(alloc, SHUFFLED, &mut writer) == answer,
-            "{good}"
+            read_and_write_sheet(alloc, SHUFFLED, &mut writer) == answer,
+            "{good_calls}"
         );
     }
-    let text = joined(alloc, &[SMALL, FULL, SMALL_JOURNAL])?;
-    for (good, answer) in [(0, failed), (42, failed), (43, Ok(()))] {
-        let mut writer = CutWriter::new(Vec::new(alloc), good);
+    let text = joined(alloc, &[SMALL_DOCKET, FULL_CAPACITY, SMALL_JOURNAL])?;
+    for (good_calls, answer) in [(0, write_failed), (42, write_failed), (43, Ok(()))] {
+        let mut writer = CutWriter::new(Vec::new(alloc), good_calls);
         assert!(rt;
-            journal_written(alloc, text.as_str(), &mut writer) == answer,
-            "{good}"
+            read_and_write_journal(alloc, text.as_str(), &mut writer) == answer,
+            "{good_calls}"
         );
     }
     Ok(())
 }
 
 // What a writer gets of a row with two fields and of a programme's row.
-fn gathered(alloc: Global, docket: &Docket) -> Result<Vec<u8>, DocketFault> {
+fn gathered_rows(alloc: Global, docket: &Docket) -> Result<Vec<u8>, DocketFault> {
     let mut output = Vec::new(alloc);
     let mut room = room_for_rows(alloc)?;
     let mut rows = RowWriter::new(&mut output, &mut room);
@@ -258,16 +291,16 @@ fn gathered(alloc: Global, docket: &Docket) -> Result<Vec<u8>, DocketFault> {
     Ok(output)
 }
 
-// What `gathered` gives for the docket with this text.
-fn gathered_of(alloc: Global, input: &str) -> Result<Vec<u8>, DocketFault> {
+// What `gathered_rows` gives for the docket with this text.
+fn gathered_rows_of(alloc: Global, input: &str) -> Result<Vec<u8>, DocketFault> {
     match read(alloc, input) {
-        Ok(docket) => gathered(alloc, &docket),
+        Ok(docket) => gathered_rows(alloc, &docket),
         Err(fault) => Err(fault),
     }
 }
 
 #[test]
 fn gathers_rows(rt: HostRuntime) {
-    let rows = gathered_of(rt.alloc(), SMALL);
+    let rows = gathered_rows_of(rt.alloc(), SMALL_DOCKET);
     assert!(rt; rows.is_ok_and(|rows| rows.as_slice() == b"U,x\nO,a,2,1\n".as_slice()));
 }

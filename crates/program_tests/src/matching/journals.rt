@@ -1,9 +1,10 @@
 //! The sheet and the journal that a match writes. If they are appended to the match's docket, the sheet is stable
 //! and the replay is good.
-use crate::commands::{NARROW_WITH_JOURNAL, WITH_JOURNAL, serve};
-use crate::markets::hundreds;
+use crate::commands::{MATCH_WITH_JOURNAL, NARROW_MATCH_WITH_JOURNAL, serve};
+use crate::markets::four_hundred_pairs;
 use crate::texts::{
-    CHAIN, CLOSE, OTHER_SHEET, QUOTAS, SMALL, SMALL_JOURNAL, SMALL_SHEET, joined, rows,
+    CHAIN_DOCKET, CLOSE_EVENT, OTHER_SHEET, QUOTAS_DOCKET, SMALL_DOCKET, SMALL_JOURNAL,
+    SMALL_SHEET, joined, rows_starting,
 };
 use residency::{Order, Status};
 use std::alloc::{AllocError, Global};
@@ -13,7 +14,7 @@ use std::test::Fail;
 use std::thread::Threads;
 
 /// What a match writes for a docket, or none if the match does not close.
-pub(super) fn matched<H: Threads + Wait + RandomSource + Sync + Send + Copy>(
+pub(super) fn match_output<H: Threads + Wait + RandomSource + Sync + Send + Copy>(
     rt: H,
     alloc: Global,
     order: Order,
@@ -32,12 +33,12 @@ fn tells<H: Threads + Wait + RandomSource + Sync + Send + Copy>(
     alloc: Global,
     order: Order,
     docket: &[u8],
-    wanted: Status,
-    text: &str,
+    wanted_status: Status,
+    wanted_text: &str,
 ) -> bool {
     let mut output = Vec::new(alloc);
     let status = serve(rt, alloc, order, docket, &mut output);
-    status == Ok(wanted) && output.as_slice() == text.as_bytes()
+    status == Ok(wanted_status) && output.as_slice() == wanted_text.as_bytes()
 }
 
 /// Whether a written sheet and journal, appended to these members' rows, are read as a stable sheet and a good
@@ -50,8 +51,8 @@ pub(super) fn is_good<H: Threads + Wait + RandomSource + Sync + Send + Copy>(
 ) -> Result<bool, AllocError> {
     let mut docket = members.as_bytes().to_vec(alloc)?;
     docket.extend_from_slice(written)?;
-    let events = rows(written, "E,");
-    let good = format!(in alloc; "G,{events}\n")?;
+    let event_count = rows_starting(written, "E,");
+    let good_row = format!(in alloc; "G,{event_count}\n")?;
     let docket = docket.as_slice();
     Ok(
         tells(
@@ -67,20 +68,27 @@ pub(super) fn is_good<H: Threads + Wait + RandomSource + Sync + Send + Copy>(
             Order::Replay,
             docket,
             Status::ReplayGood,
-            good.as_str(),
+            good_row.as_str(),
         ),
     )
 }
 
-// The members of `QUOTAS` in a docket of version 2 that withdraws one programme.
-const LEFT: &str = "V,2\nQ,a,2\nQ,b,1\nP,a,x,y,z\nP,b,x\nR,x,b,a\nR,y,a\nR,z,a\nW,P,b\n";
+// The members of `QUOTAS_DOCKET` in a docket of version 2 that withdraws one programme.
+const WITHDRAWN_DOCKET: &str =
+    "V,2\nQ,a,2\nQ,b,1\nP,a,x,y,z\nP,b,x\nR,x,b,a\nR,y,a\nR,z,a\nW,P,b\n";
 
 #[test]
 fn its_journal_is_good(rt: HostRuntime) -> Result<(), Fail> {
-    let market = hundreds(rt.alloc())?;
-    for order in [WITH_JOURNAL, NARROW_WITH_JOURNAL] {
-        for text in [QUOTAS, SMALL, CHAIN, LEFT, market.as_str()] {
-            let Some(written) = matched(rt, rt.alloc(), order, text) else {
+    let market = four_hundred_pairs(rt.alloc())?;
+    for order in [MATCH_WITH_JOURNAL, NARROW_MATCH_WITH_JOURNAL] {
+        for text in [
+            QUOTAS_DOCKET,
+            SMALL_DOCKET,
+            CHAIN_DOCKET,
+            WITHDRAWN_DOCKET,
+            market.as_str(),
+        ] {
+            let Some(written) = match_output(rt, rt.alloc(), order, text) else {
                 return Err(Fail::from("the match isn't closed"));
             };
             assert!(rt;
@@ -92,36 +100,45 @@ fn its_journal_is_good(rt: HostRuntime) -> Result<(), Fail> {
     Ok(())
 }
 
-// Dockets with the members of `SMALL` that already have a sheet, or a journal of another exchange, or both.
-const USED: [&[&str]; 5] = [
-    &[SMALL, OTHER_SHEET],
-    &[SMALL, "C,7\n", CLOSE],
-    &[SMALL, "C,7\nE,offer,a,y\n", OTHER_SHEET],
-    &["C,7\n", SMALL_JOURNAL, OTHER_SHEET, SMALL],
-    &[OTHER_SHEET, SMALL, "C,7\n", SMALL_JOURNAL, CLOSE],
+// Dockets with the members of `SMALL_DOCKET` that already have a sheet, or a journal of another exchange, or both.
+const USED_DOCKETS: [&[&str]; 5] = [
+    &[SMALL_DOCKET, OTHER_SHEET],
+    &[SMALL_DOCKET, "C,7\n", CLOSE_EVENT],
+    &[SMALL_DOCKET, "C,7\nE,offer,a,y\n", OTHER_SHEET],
+    &["C,7\n", SMALL_JOURNAL, OTHER_SHEET, SMALL_DOCKET],
+    &[
+        OTHER_SHEET,
+        SMALL_DOCKET,
+        "C,7\n",
+        SMALL_JOURNAL,
+        CLOSE_EVENT,
+    ],
 ];
 
-// Whether the text is exactly the sheet of `SMALL`, the row of the capacity, and the nine events of an exchange.
-fn is_new(written: &[u8], capacity: &str) -> bool {
+// Whether the text is exactly the sheet of `SMALL_DOCKET`, the row of the capacity, and the nine events of an exchange.
+fn is_new_output(written: &[u8], capacity_row: &str) -> bool {
     let (sheet, journal) = written.split_at(written.len().min(SMALL_SHEET.len()));
     sheet == SMALL_SHEET.as_bytes()
-        && journal.starts_with(capacity.as_bytes())
-        && rows(journal, "C,") == 1
-        && rows(journal, "E,") == 9
-        && rows(journal, "") == 10
+        && journal.starts_with(capacity_row.as_bytes())
+        && rows_starting(journal, "C,") == 1
+        && rows_starting(journal, "E,") == 9
+        && rows_starting(journal, "") == 10
 }
 
 #[test]
 fn what_it_read_is_not_written(rt: HostRuntime) -> Result<(), Fail> {
-    for (order, capacity) in [(WITH_JOURNAL, "C,full\n"), (NARROW_WITH_JOURNAL, "C,1\n")] {
-        for texts in USED {
+    for (order, capacity_row) in [
+        (MATCH_WITH_JOURNAL, "C,full\n"),
+        (NARROW_MATCH_WITH_JOURNAL, "C,1\n"),
+    ] {
+        for texts in USED_DOCKETS {
             let text = joined(rt.alloc(), texts)?;
-            let Some(written) = matched(rt, rt.alloc(), order, text.as_str()) else {
+            let Some(written) = match_output(rt, rt.alloc(), order, text.as_str()) else {
                 return Err(Fail::from("the match isn't closed"));
             };
-            assert!(rt; is_new(written.as_slice(), capacity), "{text}");
+            assert!(rt; is_new_output(written.as_slice(), capacity_row), "{text}");
             assert!(rt;
-                is_good(rt, rt.alloc(), SMALL, written.as_slice())?,
+                is_good(rt, rt.alloc(), SMALL_DOCKET, written.as_slice())?,
                 "{text}"
             );
         }

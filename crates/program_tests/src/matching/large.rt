@@ -1,8 +1,8 @@
 //! Matches in which a worker is kept waiting, and matches of the largest dockets.
-use super::journals::{is_good, matched};
-use crate::commands::{MATCH, NARROW, serve};
-use crate::markets::{in_one_order, sheet_in_one_order, widest};
-use crate::texts::{SMALL, SMALL_SHEET, rows};
+use super::journals::{is_good, match_output};
+use crate::commands::{MATCH, NARROW_MATCH, serve};
+use crate::markets::{docket_in_one_order, sheet_in_one_order, widest_docket};
+use crate::texts::{SMALL_DOCKET, SMALL_SHEET, rows_starting};
 use exchange_core::Capacity;
 use residency::{JournalForm, MatchOptions, Order, ServeFault, Status, serve_match};
 use std::alloc::{AllocError, Global};
@@ -13,11 +13,11 @@ use std::thread::Threads;
 use test_gates::gates::{Firm, Held};
 
 // Runs a match with a gate that keeps one call of `pass` waiting.
-fn matched_through<H: Threads + Wait + RandomSource + Sync + Send + Copy>(
+fn match_through_gate<H: Threads + Wait + RandomSource + Sync + Send + Copy>(
     rt: H,
     alloc: Global,
     text: &str,
-    firm: &Firm,
+    gate: &Firm,
     output: &mut Vec<u8>,
 ) -> Result<Status, ServeFault> {
     serve_match(
@@ -26,16 +26,16 @@ fn matched_through<H: Threads + Wait + RandomSource + Sync + Send + Copy>(
         text.as_bytes(),
         output,
         &MatchOptions::default(),
-        firm,
+        gate,
     )
 }
 
 // How many events two workers entered together; none unless the gate kept its call waiting and each of the two
 // entered some.
-fn seen(held: &Held) -> Option<u64> {
-    let (first, second) = (held.count(0), held.count(1));
-    if held.has_held() && first > 0 && second > 0 {
-        Some(first.saturating_add(second))
+fn events_entered(held: &Held) -> Option<u64> {
+    let (first_count, second_count) = (held.count(0), held.count(1));
+    if held.has_held() && first_count > 0 && second_count > 0 {
+        Some(first_count.saturating_add(second_count))
     } else {
         None
     }
@@ -43,28 +43,30 @@ fn seen(held: &Held) -> Option<u64> {
 
 #[test]
 fn two_at_once(rt: HostRuntime) {
-    let firm = Firm(Held::new(0));
+    let gate = Firm(Held::new(0));
     let mut output = Vec::new(rt.alloc());
-    let status = matched_through(rt, rt.alloc(), SMALL, &firm, &mut output);
+    let status = match_through_gate(rt, rt.alloc(), SMALL_DOCKET, &gate, &mut output);
     assert!(rt; status == Ok(Status::Closed));
     assert!(rt; output.as_slice() == SMALL_SHEET.as_bytes());
-    assert!(rt; seen(&firm.0) == Some(9));
+    assert!(rt; events_entered(&gate.0) == Some(9));
 }
 
 // Whether a sheet has exactly a row for each of 20,000 residents and each of 2,000 programmes.
 fn is_widest_sheet(sheet: &[u8]) -> bool {
-    let residents = rows(sheet, "M,").saturating_add(rows(sheet, "U,"));
-    residents == 20_000 && rows(sheet, "F,") == 2_000 && rows(sheet, "") == 22_000
+    let resident_rows = rows_starting(sheet, "M,").saturating_add(rows_starting(sheet, "U,"));
+    resident_rows == 20_000
+        && rows_starting(sheet, "F,") == 2_000
+        && rows_starting(sheet, "") == 22_000
 }
 
 // Whether a written sheet, appended to its docket, is read and is stable.
 fn is_stable<H: Threads + Wait + RandomSource + Sync + Send + Copy>(
     rt: H,
     alloc: Global,
-    text: &str,
+    docket_text: &str,
     sheet: &[u8],
 ) -> Result<bool, AllocError> {
-    let mut docket = text.as_bytes().to_vec(alloc)?;
+    let mut docket = docket_text.as_bytes().to_vec(alloc)?;
     docket.extend_from_slice(sheet)?;
     let mut report = Vec::new(alloc);
     let status = serve(rt, alloc, Order::Audit, docket.as_slice(), &mut report);
@@ -73,19 +75,19 @@ fn is_stable<H: Threads + Wait + RandomSource + Sync + Send + Copy>(
 
 #[test]
 fn the_widest_docket(rt: HostRuntime) -> Result<(), Fail> {
-    let text = widest(rt.alloc())?;
-    let firm = Firm(Held::new(9_999));
+    let text = widest_docket(rt.alloc())?;
+    let gate = Firm(Held::new(9_999));
     let mut output = Vec::new(rt.alloc());
-    let status = matched_through(rt, rt.alloc(), text.as_str(), &firm, &mut output);
+    let status = match_through_gate(rt, rt.alloc(), text.as_str(), &gate, &mut output);
     assert!(rt; status == Ok(Status::Closed));
-    assert!(rt; seen(&firm.0).is_some());
+    assert!(rt; events_entered(&gate.0).is_some());
     assert!(rt; is_widest_sheet(output.as_slice()));
     assert!(rt; is_stable(rt, rt.alloc(), text.as_str(), output.as_slice())?);
     Ok(())
 }
 
 // A match with the largest capacity that is a number, and with the journal.
-const ROOMY: Order = Order::Match(MatchOptions {
+const ROOMY_MATCH: Order = Order::Match(MatchOptions {
     workers: 2,
     capacity: Capacity::Each(1_024),
     journal: JournalForm::Plain,
@@ -93,9 +95,9 @@ const ROOMY: Order = Order::Match(MatchOptions {
 
 #[test]
 fn all_in_one_order(rt: HostRuntime) -> Result<(), Fail> {
-    let text = in_one_order(rt.alloc())?;
+    let text = docket_in_one_order(rt.alloc())?;
     let sheet = sheet_in_one_order(rt.alloc())?;
-    for order in [MATCH, NARROW] {
+    for order in [MATCH, NARROW_MATCH] {
         let mut output = Vec::new(rt.alloc());
         let status = serve(rt, rt.alloc(), order, text.as_bytes(), &mut output);
         assert!(rt; status == Ok(Status::Closed));
@@ -106,9 +108,9 @@ fn all_in_one_order(rt: HostRuntime) -> Result<(), Fail> {
 
 #[test]
 fn the_journal_of_all_in_one_order(rt: HostRuntime) -> Result<(), Fail> {
-    let text = in_one_order(rt.alloc())?;
+    let text = docket_in_one_order(rt.alloc())?;
     let sheet = sheet_in_one_order(rt.alloc())?;
-    let Some(written) = matched(rt, rt.alloc(), ROOMY, text.as_str()) else {
+    let Some(written) = match_output(rt, rt.alloc(), ROOMY_MATCH, text.as_str()) else {
         return Err(Fail::from("the match isn't closed"));
     };
     assert!(rt; written.as_slice().starts_with(sheet.as_bytes()));

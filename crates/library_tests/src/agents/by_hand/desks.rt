@@ -16,7 +16,7 @@ use std::marker::PhantomData;
 #[derive(Drop)]
 pub(super) struct Resident<J: ExchangeIdentity, T: TakeEnd<OfferNote>> {
     agent: ResidentAgent<T>,
-    named: PhantomData<J>,
+    exchange: PhantomData<J>,
     ghost agent_of: { IsResidentAgentOf J.inst agent },
 }
 
@@ -34,7 +34,7 @@ impl<J: ExchangeIdentity, T: TakeEnd<OfferNote> + Drop> Resident<J, T> {
         let agent = ResidentAgent::open(alloc, inst, resident, end).ok()?;
         Some(Resident {
             agent,
-            named: PhantomData,
+            exchange: PhantomData,
         })
     }
 
@@ -54,9 +54,9 @@ impl<J: ExchangeIdentity, T: TakeEnd<OfferNote> + Drop> Resident<J, T> {
 
     /// Gives the first answer that is due.
     pub(super) fn give(&mut self) -> Option<(ProgrammeNo, AnswerKind)> {
-        let due = self.agent.due()?;
+        let due_answer = self.agent.due()?;
         self.agent.answered();
-        Some(due)
+        Some(due_answer)
     }
 
     pub(super) fn log(&self) -> &[OfferNote] {
@@ -68,7 +68,7 @@ impl<J: ExchangeIdentity, T: TakeEnd<OfferNote> + Drop> Resident<J, T> {
 #[derive(Drop)]
 pub(super) struct Programme<J: ExchangeIdentity, T: TakeEnd<AnswerNote>> {
     agent: ProgrammeAgent<T>,
-    named: PhantomData<J>,
+    exchange: PhantomData<J>,
     ghost agent_of: { IsProgrammeAgentOf J.inst agent },
 }
 
@@ -86,7 +86,7 @@ impl<J: ExchangeIdentity, T: TakeEnd<AnswerNote> + Drop> Programme<J, T> {
         let agent = ProgrammeAgent::open(alloc, inst, programme, end).ok()?;
         Some(Programme {
             agent,
-            named: PhantomData,
+            exchange: PhantomData,
         })
     }
 

@@ -1,6 +1,6 @@
 //! Dockets that are just over the standard limits; for programmes and residents also dockets at the national limit
 //! and with one member more.
-use super::{ELEVENTH, closes, numbered, ranked};
+use super::{ELEVENTH, docket_of_closes, numbered, ranked_docket};
 use docket::read_docket_within;
 use match_model::Limits;
 use match_pool::OpenGate;
@@ -11,7 +11,7 @@ use test_support::randomness::OneByte;
 
 // Whether reading a docket within the national limits ends as expected: with a fault of this text, or without a fault
 // if the text is `read`.
-fn tells(alloc: Global, text: &str, wanted: &str) -> Result<bool, AllocError> {
+fn reads_as(alloc: Global, text: &str, wanted: &str) -> Result<bool, AllocError> {
     let limits = Limits::National;
     match read_docket_within(&OneByte(7), alloc, limits, text.as_bytes()) {
         Ok(_) => Ok(wanted == "read"),
@@ -24,41 +24,41 @@ fn tells(alloc: Global, text: &str, wanted: &str) -> Result<bool, AllocError> {
 
 #[test]
 fn programmes(rt: HostRuntime) -> Result<(), Fail> {
-    for (count, wanted) in [
+    for (record_count, wanted) in [
         (2_001, "read"),
         (10_000, "read"),
         (10_001, "record 10001: more than 10000 programmes"),
     ] {
-        let text = numbered(rt.alloc(), "Q,p", count, ",10000\n")?;
-        assert!(rt; tells(rt.alloc(), text.as_str(), wanted)?, "{wanted}");
+        let text = numbered(rt.alloc(), "Q,p", record_count, ",10000\n")?;
+        assert!(rt; reads_as(rt.alloc(), text.as_str(), wanted)?, "{wanted}");
     }
     Ok(())
 }
 
 #[test]
 fn residents(rt: HostRuntime) -> Result<(), Fail> {
-    for (count, wanted) in [
+    for (record_count, wanted) in [
         (20_001, "read"),
         (100_000, "read"),
         (100_001, "record 100001: more than 100000 residents"),
     ] {
-        let text = numbered(rt.alloc(), "R,r", count, "\n")?;
-        assert!(rt; tells(rt.alloc(), text.as_str(), wanted)?, "{wanted}");
+        let text = numbered(rt.alloc(), "R,r", record_count, "\n")?;
+        assert!(rt; reads_as(rt.alloc(), text.as_str(), wanted)?, "{wanted}");
     }
     Ok(())
 }
 
 #[test]
 fn pairs(rt: HostRuntime) -> Result<(), Fail> {
-    let text = ranked(rt.alloc(), ELEVENTH)?;
-    assert!(rt; tells(rt.alloc(), text.as_str(), "read")?);
+    let text = ranked_docket(rt.alloc(), ELEVENTH)?;
+    assert!(rt; reads_as(rt.alloc(), text.as_str(), "read")?);
     Ok(())
 }
 
 #[test]
 fn records(rt: HostRuntime) -> Result<(), Fail> {
-    let text = closes(rt.alloc(), 2_000_001)?;
-    assert!(rt; tells(rt.alloc(), text.as_str(), "read")?);
+    let text = docket_of_closes(rt.alloc(), 2_000_001)?;
+    assert!(rt; reads_as(rt.alloc(), text.as_str(), "read")?);
     Ok(())
 }
 
