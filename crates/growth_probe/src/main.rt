@@ -54,7 +54,7 @@ const CALLS: [&str; 28] = [
 ];
 
 // Makes the call with this name, and writes a mark to `out` before the call and one after it.
-fn made<H: Threads + Wait + RandomSource + Sync + Send + Copy + Drop, W: Write>(
+fn call_outcome<H: Threads + Wait + RandomSource + Sync + Send + Copy + Drop, W: Write>(
     rt: H,
     alloc: Global,
     name: &str,
@@ -85,7 +85,7 @@ fn made<H: Threads + Wait + RandomSource + Sync + Send + Copy + Drop, W: Write>(
         "write_replay" => audits::answer(alloc, out),
         "check" => audits::checked(alloc, out),
         "counts" => audits::counted(alloc, out),
-        _ => serving::made(rt, alloc, name, out),
+        _ => serving::call_outcome(rt, alloc, name, out),
     }
 }
 
@@ -102,7 +102,7 @@ fn call_and_print<H: Threads + Wait + RandomSource + Sync + Send + Copy + Drop, 
     name: &str,
     out: &mut W,
 ) -> bool {
-    let outcome = made(rt, alloc, name, out);
+    let outcome = call_outcome(rt, alloc, name, out);
     let text = outcome.text();
     writeln!(out, "{name} {text}").is_ok() && outcome != Outcome::Wrong
 }
@@ -113,16 +113,16 @@ fn main(rt: HostRuntime) -> ExitCode {
     };
     let alloc = rt.alloc();
     let out = &mut io::writer(&rt);
-    let mut are_right = true;
+    let mut are_calls_right = true;
     match words.first() {
-        Some(name) => are_right = call_and_print(rt, alloc, name.as_str(), out),
+        Some(name) => are_calls_right = call_and_print(rt, alloc, name.as_str(), out),
         None => {
             for name in CALLS {
-                are_right = call_and_print(rt, alloc, name, out) && are_right;
+                are_calls_right = call_and_print(rt, alloc, name, out) && are_calls_right;
             }
         }
     }
-    if are_right {
+    if are_calls_right {
         ExitCode::SUCCESS
     } else {
         ExitCode::FAILURE
