@@ -71,7 +71,7 @@ fn blocked_report(alloc: Global, docket: &Docket) -> Result<AuditReport, AllocEr
 }
 
 /// Writes the report about a sheet with a blocking pair.
-pub(super) fn report<W: Write>(alloc: Global, out: &mut W) -> Outcome {
+pub(super) fn write_blocked_report<W: Write>(alloc: Global, out: &mut W) -> Outcome {
     let (Some(docket), Ok(mut output)) = (docket_of(alloc, &[BLOCKED_DOCKET]), output_buffer(alloc))
     else {
         return Outcome::Wrong;
@@ -133,7 +133,7 @@ pub(super) fn replayed<W: Write>(alloc: Global, out: &mut W) -> Outcome {
 }
 
 /// Writes the answer of a replay.
-pub(super) fn answer<W: Write>(alloc: Global, out: &mut W) -> Outcome {
+pub(super) fn write_good_replay<W: Write>(alloc: Global, out: &mut W) -> Outcome {
     let (Some(docket), Ok(mut output)) = (
         docket_of(alloc, &[SMALL_DOCKET, SMALL_JOURNAL]),
         output_buffer(alloc),

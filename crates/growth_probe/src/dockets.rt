@@ -86,7 +86,7 @@ pub(super) fn read_with_lists<W: Write>(alloc: Global, out: &mut W) -> Outcome {
 }
 
 /// Writes a sheet.
-pub(super) fn sheet<W: Write>(alloc: Global, out: &mut W) -> Outcome {
+pub(super) fn write_small_sheet<W: Write>(alloc: Global, out: &mut W) -> Outcome {
     let (Some(docket), Ok(mut output)) = (
         docket_of(alloc, &[SMALL_DOCKET, SMALL_SHEET]),
         output_buffer(alloc),
@@ -112,7 +112,7 @@ pub(super) fn sheet<W: Write>(alloc: Global, out: &mut W) -> Outcome {
 const CLOSED_JOURNAL: &str = "C,full\nE,close\n";
 
 /// Writes a journal.
-pub(super) fn journal<W: Write>(alloc: Global, out: &mut W) -> Outcome {
+pub(super) fn write_closed_journal<W: Write>(alloc: Global, out: &mut W) -> Outcome {
     let (Some(docket), Ok(mut output)) = (docket_of(alloc, &[CLOSED_JOURNAL]), output_buffer(alloc))
     else {
         return Outcome::Wrong;

@@ -93,7 +93,7 @@ impl GivenLists {
         owner: usize,
         residents: &[ResidentNo],
         other_count: usize,
-        places: &mut Vec<usize>,
+        item_places: &mut Vec<usize>,
     ) -> Result<(), ModelFault>
         requires { owner < length self.old }
         ensures given { OnOk result (self.new ≡ slice_set self.old owner (Some residents.now)) }
@@ -102,7 +102,7 @@ impl GivenLists {
     {
         let start = self.items.len();
         push_residents(&mut self.items, residents)?;
-        match test_items(places, other_count, &self.items[start..]) {
+        match test_items(item_places, other_count, &self.items[start..]) {
             Ok(()) => {
                 self.spans[owner] = Some((start, self.items.len()));
                 Ok(())
@@ -120,7 +120,7 @@ impl GivenLists {
         owner: usize,
         programmes: &[ProgrammeNo],
         other_count: usize,
-        places: &mut Vec<usize>,
+        item_places: &mut Vec<usize>,
     ) -> Result<(), ModelFault>
         requires { owner < length self.old }
         ensures given { OnOk result (self.new ≡ slice_set self.old owner (Some programmes.now)) }
@@ -129,7 +129,7 @@ impl GivenLists {
     {
         let start = self.items.len();
         push_programmes(&mut self.items, programmes)?;
-        match test_items(places, other_count, &self.items[start..]) {
+        match test_items(item_places, other_count, &self.items[start..]) {
             Ok(()) => {
                 self.spans[owner] = Some((start, self.items.len()));
                 Ok(())

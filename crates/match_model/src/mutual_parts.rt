@@ -18,11 +18,11 @@ use crate::ranking::remaining;
 use crate::rows::Rows;
 use std::alloc::{AllocError, Global};
 
-/// Appends to the open row of `kept` those items of a list that also stand in the row `row`, in the list's order.
+/// Appends to the open row of `kept_rows` those items of a list that also stand in the row `row`, in the list's order.
 /// `places` says where each number stands in `row`. For each of these items its rank among them is noted in `ranks`, in
 /// which the items of the row begin at `start`.
 fn keep(
-    kept: &mut Rows<u32>,
+    kept_rows: &mut Rows<u32>,
     items: &[u32],
     row: &[u32],
     places: &[usize],
@@ -31,15 +31,16 @@ fn keep(
 ) -> Result<(), AllocError>
     requires below { list_all (λ x. nat_lt x (length places.now)) items.now ≡ true }
     requires noted { ArePlaces row.now places.now }
-    ensures { OnOk result (kept.new
-        ≡ record kept.old { begun = kept.old.begun ++ filter (is_listed row.now) items.now }) }
+    ensures { OnOk result (kept_rows.new ≡ record kept_rows.old {
+      begun = kept_rows.old.begun ++ filter (is_listed row.now) items.now;
+    }) }
 {
     let mut rank: usize = 0;
     for number in items {
         if stands_in(places, row, *number) {
             note_guess(ranks, start.wrapping_add(places[*number as usize]), rank);
             rank = rank.wrapping_add(1);
-            kept.push(*number)?;
+            kept_rows.push(*number)?;
         }
     }
     Ok(())
@@ -92,18 +93,25 @@ fn rows_kept(
 {
     let mut places = vec![in alloc; 0; other_count]?;
     let reserved_items = room_for(most_items, rows.item_count());
-    let mut kept = Rows::with_capacity(alloc, lists.len(), reserved_items)?;
+    let mut kept_rows = Rows::with_capacity(alloc, lists.len(), reserved_items)?;
     for owner in 0..lists.len() {
         let row = rows.row(owner);
         note_places(&mut places, row);
         let items = remaining(lists, withdrawn, owner);
-        keep(&mut kept, items, row, &places, rows.index(owner, 0), ranks)?;
-        kept.end_row()?;
-        if is_over(most_items, kept.item_count()) {
+        keep(
+            &mut kept_rows,
+            items,
+            row,
+            &places,
+            rows.index(owner, 0),
+            ranks,
+        )?;
+        kept_rows.end_row()?;
+        if is_over(most_items, kept_rows.item_count()) {
             return Err(ModelFault::TooManyPairs);
         }
     }
-    Ok(kept)
+    Ok(kept_rows)
 }
 
 /// For each member, those on the member's list who list this member too, in order. Fails if these items together are
@@ -166,7 +174,7 @@ pub(crate) fn mutual_in_turn(
 {
     let (rows, places, offers) = owners_of_rows(alloc, own_lists.len(), other_rows)?;
     let mut ranks: Vec<u32> = vec![in alloc; 0; other_rows.item_count()]?;
-    let kept = rows_kept(
+    let kept_rows = rows_kept(
         alloc,
         None,
         own_lists,
@@ -181,5 +189,5 @@ pub(crate) fn mutual_in_turn(
         programme_ranks: places,
         offers,
     };
-    Ok((kept, choices))
+    Ok((kept_rows, choices))
 }

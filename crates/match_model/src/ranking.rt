@@ -25,32 +25,32 @@ pub(crate) fn test_withdrawal(withdrawn: &[bool], member: usize) -> Result<(), M
 /// Whether each item is below `other_count` and stands in the list once; if not, why. The table of places may have any
 /// content before the call.
 pub(crate) fn test_items(
-    places: &mut Vec<usize>,
+    item_places: &mut Vec<usize>,
     other_count: usize,
     items: &[u32],
 ) -> Result<(), ModelFault>
     ensures { AnswersOrWantsMemory (items_fault other_count items.now) result }
 {
-    grow_places(places, other_count)?;
-    match first_fault(places, other_count, items) {
+    grow_places(item_places, other_count)?;
+    match first_fault(item_places, other_count, items) {
         Some(fault) => Err(fault),
         None => Ok(()),
     }
 }
 
 /// The first fault of a list's items, found in one walk over the list. The walk also notes the places of the items.
-fn first_fault(places: &mut [usize], other_count: usize, items: &[u32]) -> Option<ModelFault>
-    requires { other_count ≤ length places.old }
+fn first_fault(item_places: &mut [usize], other_count: usize, items: &[u32]) -> Option<ModelFault>
+    requires { other_count ≤ length item_places.old }
     ensures { result ≡ items_fault other_count items.now }
 {
     for (place, number) in items.iter().enumerate() {
         if *number as usize >= other_count {
             return Some(ModelFault::NoSuchMember);
         }
-        if stands_in(places, &items[..place], *number) {
+        if stands_in(item_places, &items[..place], *number) {
             return Some(fault_of_repeat(other_count, items));
         }
-        places[*number as usize] = place;
+        item_places[*number as usize] = place;
     }
     None
 }
@@ -67,11 +67,11 @@ fn fault_of_repeat(other_count: usize, items: &[u32]) -> ModelFault
 }
 
 /// Makes the table of places at least `other_count` entries long.
-fn grow_places(places: &mut Vec<usize>, other_count: usize) -> Result<(), AllocError>
-    ensures { OnOk result (other_count ≤ vec_len places.new) }
+fn grow_places(item_places: &mut Vec<usize>, other_count: usize) -> Result<(), AllocError>
+    ensures { OnOk result (other_count ≤ vec_len item_places.new) }
 {
-    if places.len() < other_count {
-        places.resize(other_count, 0)?;
+    if item_places.len() < other_count {
+        item_places.resize(other_count, 0)?;
     }
     Ok(())
 }

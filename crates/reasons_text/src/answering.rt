@@ -29,7 +29,7 @@ use std::random::RandomSource;
 
 // How answers are written: which names are shown for members, and whether ranks on programmes' lists are shown.
 #[derive(Clone, Copy)]
-struct Manner<'a> {
+struct AnswerManner<'a> {
     names: Names<'a>,
     without_ranks: bool,
 }
@@ -46,7 +46,7 @@ enum AskedMembers {
 fn push_each(
     alloc: Global,
     text: &mut String,
-    manner: &Manner,
+    manner: &AnswerManner,
     resident: ResidentNo,
     programmes: &[ProgrammeNo],
     reasons: &[Why],
@@ -74,7 +74,7 @@ fn push_lines(
     alloc: Global,
     text: &mut String,
     case: &Case,
-    manner: &Manner,
+    manner: &AnswerManner,
     resident: ResidentNo,
 ) -> Result<(), AllocError>
     requires { IsResident case.now.docket.instance resident }
@@ -101,7 +101,7 @@ fn push_lines(
 // Adds one row for each of these programmes. Reason `i` goes into the row about programme `i`.
 fn push_rows<W: Write>(
     rows: &mut RowWriter<'_, W>,
-    manner: &Manner,
+    manner: &AnswerManner,
     resident: ResidentNo,
     programmes: &[ProgrammeNo],
     reasons: &[Why],
@@ -129,7 +129,7 @@ fn push_all_rows<W: Write>(
     alloc: Global,
     rows: &mut RowWriter<'_, W>,
     case: &Case,
-    manner: &Manner,
+    manner: &AnswerManner,
 ) -> Result<(), DocketFault>
     ensures { OnOk result
         (AddsRows W.contents case.now (naming_of manner.now.names) manner.now.without_ranks
@@ -156,7 +156,7 @@ pub fn push_rows_on<W: Write>(
     ensures { OnOk result (AddsOwnRows W.contents case.now resident rows.old rows.new) }
 {
     let key = Key::none(alloc);
-    let manner = Manner {
+    let manner = AnswerManner {
         names: Names {
             docket: case.docket(),
             key: &key,
@@ -175,7 +175,7 @@ fn write_table<W: Write>(
     alloc: Global,
     writer: &mut W,
     case: &Case,
-    manner: &Manner,
+    manner: &AnswerManner,
 ) -> Result<(), DocketFault>
     ensures { OnOk result
         (AppendsText (IsTable case.now (naming_of manner.now.names) manner.now.without_ranks)
@@ -190,7 +190,7 @@ fn write_table<W: Write>(
 }
 
 // The row with the columns' names, and then all residents' rows. The text is made in memory, so only memory can fail.
-fn table_of(alloc: Global, case: &Case, manner: &Manner) -> Result<Vec<u8>, AllocError>
+fn table_of(alloc: Global, case: &Case, manner: &AnswerManner) -> Result<Vec<u8>, AllocError>
     ensures { IfOk result (λ text.
         IsTable case.now (naming_of manner.now.names) manner.now.without_ranks text.items) }
 {
@@ -205,7 +205,7 @@ fn table_of(alloc: Global, case: &Case, manner: &Manner) -> Result<Vec<u8>, Allo
 fn lines_of(
     alloc: Global,
     case: &Case,
-    manner: &Manner,
+    manner: &AnswerManner,
     resident: ResidentNo,
 ) -> Result<Vec<u8>, AllocError>
     requires { IsResident case.now.docket.instance resident }
@@ -221,7 +221,7 @@ fn lines_of(
 fn line_of(
     alloc: Global,
     case: &Case,
-    manner: &Manner,
+    manner: &AnswerManner,
     resident: ResidentNo,
     programme: ProgrammeNo,
 ) -> Result<Vec<u8>, AllocError>
@@ -245,10 +245,10 @@ fn line_of(
 }
 
 // The text that answers the question, whose names were replaced by the members' numbers.
-fn told_text(
+fn answer_text(
     alloc: Global,
     case: &Case,
-    manner: &Manner,
+    manner: &AnswerManner,
     whom: AskedMembers,
 ) -> Result<Vec<u8>, AllocError>
     requires { IsTold case.now.docket.instance whom }
@@ -337,11 +337,11 @@ pub(crate) fn text_of(
     let key = key_of(alloc, hash_keys, docket, key_bytes)?;
     let names = Names { docket, key: &key };
     let whom = members_asked(alloc, &names, asked)?;
-    let manner = Manner {
+    let manner = AnswerManner {
         names,
         without_ranks,
     };
-    Ok(told_text(alloc, case, &manner, whom)?)
+    Ok(answer_text(alloc, case, &manner, whom)?)
 }
 
 /// Reads a docket with a sheet within the standard limits, and writes the answer to the question. A question about a

@@ -86,7 +86,7 @@ fn row_text(alloc: Global, text: &[u8]) -> Result<Option<String>, AllocError>
 }
 
 // The sign of the member in a row: the ID, or the docket's name if there is no ID.
-fn sign(row: &ByteRecord) -> &[u8]
+fn sign_of_row(row: &ByteRecord) -> &[u8]
     ensures { result.now ≡ sign_in (fields_of row.now) }
 {
     let id = field(row, 3);
@@ -210,7 +210,7 @@ impl SideKey {
         let Some(name) = row_text(alloc, field(row, 2))? else {
             return Err(WhyFault::BadKey { place });
         };
-        let Some(sign) = row_text(alloc, sign(row))? else {
+        let Some(sign) = row_text(alloc, sign_of_row(row))? else {
             return Err(WhyFault::BadKey { place });
         };
         self.note(number, name, sign)?;

@@ -31,7 +31,7 @@ keep-requires-clause-below c =
 
 pub loop-owner-init : goal.loop-owner-init
 loop-owner-init c =
-    let empty = c.in_ok-kept.ensures in
+    let empty = c.in_ok-kept_rows.ensures in
     record { ended = ap (λ (t : RowLists ℕ). t.rows) empty; none_begun = ap (λ (t : RowLists ℕ). t.begun) empty; within = over_none c.args.most_items; room = c.in_ok-places.ensures.len }
 
 pub loop-owner-preserved : goal.loop-owner-preserved
@@ -39,7 +39,7 @@ loop-owner-preserved c =
     let i : ℕ = c.loop-owner.owner in
     let all : List (List ℕ) = lists_left c.args.lists.now c.args.withdrawn.now in
     let many = length-lists_left c.args.lists.now c.args.withdrawn.now in
-    let more = kept_more all c.args.rows.now.rows i (omega arith) c.remaining-items.result.now c.row-row.result.now c.remaining-items.ensures c.row-row.ensures c.loop-owner.kept c.keep.new.kept c.end_row.new.self
+    let more = kept_more all c.args.rows.now.rows i (omega arith) c.remaining-items.result.now c.row-row.result.now c.remaining-items.ensures c.row-row.ensures c.loop-owner.kept_rows c.keep.new.kept_rows c.end_row.new.self
     c.loop-owner.invariant.ended c.loop-owner.invariant.none_begun c.in_ok-keep.ensures c.in_ok-end_row.ensures c.item_count-in-loop-owner.result c.item_count-in-loop-owner.ensures in
     record {
       ended = more.ended;
@@ -53,7 +53,7 @@ returns-then-is_over-clause-cause c =
     let i : ℕ = c.loop-owner.owner in
     let all : List (List ℕ) = lists_left c.args.lists.now c.args.withdrawn.now in
     let many = length-lists_left c.args.lists.now c.args.withdrawn.now in
-    let more = kept_more all c.args.rows.now.rows i (omega arith) c.remaining-items.result.now c.row-row.result.now c.remaining-items.ensures c.row-row.ensures c.loop-owner.kept c.keep.new.kept c.end_row.new.self
+    let more = kept_more all c.args.rows.now.rows i (omega arith) c.remaining-items.result.now c.row-row.result.now c.remaining-items.ensures c.row-row.ensures c.loop-owner.kept_rows c.keep.new.kept_rows c.end_row.new.self
     c.loop-owner.invariant.ended c.loop-owner.invariant.none_begun c.in_ok-keep.ensures c.in_ok-end_row.ensures c.item_count-in-loop-owner.result c.item_count-in-loop-owner.ensures in
     inr (refl, over_in_all c.args.most_items (kept_lists all c.args.rows.now.rows) c.item_count-in-loop-owner.result (i + 1) more.counted (sym c.is_over.ensures ∙ c.if-is_over.true))
 

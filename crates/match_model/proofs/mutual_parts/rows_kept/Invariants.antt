@@ -6,8 +6,8 @@ use Rattle.match_model.proofs.mutual_parts.rows_kept.Given as goal
 
 abbrev pub invariant-loop-owner : goal.invariant-loop-owner
 invariant-loop-owner l = record {
-  ended : l.kept.rows ≡ take l.owner (kept_lists (lists_left l.lists l.withdrawn) l.rows.rows);
-  none_begun : l.kept.begun ≡ [];
+  ended : l.kept_rows.rows ≡ take l.owner (kept_lists (lists_left l.lists l.withdrawn) l.rows.rows);
+  none_begun : l.kept_rows.begun ≡ [];
   within : are_over l.most_items (sum_by length (take l.owner (kept_lists (lists_left l.lists l.withdrawn) l.rows.rows))) ≡ false;
   room : vec_len l.places ≡ l.other_count;
 }

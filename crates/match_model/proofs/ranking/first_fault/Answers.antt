@@ -37,7 +37,7 @@ loop-place-preserved c =
     record {
       below = list_all_more (λ y. ltb y c.args.other_count) list i 0 c.loop-place-test.true ∙ ap (λ b. b && ltb x c.args.other_count) c.loop-place.invariant.below ∙ lt-ltb x c.args.other_count below;
       distinct = ap has_no_repeats e ∙ has_no_repeats-push (take i list) x ∙ ap (λ b. has_no_repeats (take i list) && not b) new ∙ ap (λ b. b && true) c.loop-place.invariant.distinct;
-      noted = ArePlaces-more list c.loop-place.places i c.loop-place-test.true
+      noted = ArePlaces-more list c.loop-place.item_places i c.loop-place-test.true
           (λ k l same. unlisted_apart (take i list) x new k (omega (arith, length-take i list, c.loop-place-test.true)) (get_or-take i list k 0 l ∙ same))
-          (omega (arith, c.loop-place.auto.places)) c.loop-place.invariant.noted;
+          (omega (arith, c.loop-place.auto.item_places)) c.loop-place.invariant.noted;
     }

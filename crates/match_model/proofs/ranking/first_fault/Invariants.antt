@@ -8,5 +8,5 @@ abbrev pub invariant-loop-place : goal.invariant-loop-place
 invariant-loop-place l = record {
   below : list_all (λ x. ltb x l.other_count) (take l.place l.items) ≡ true;
   distinct : has_no_repeats (take l.place l.items) ≡ true;
-  noted : ArePlaces (take l.place l.items) l.places;
+  noted : ArePlaces (take l.place l.items) l.item_places;
 }
