@@ -3,8 +3,8 @@ ghost use Rattle.std.specs.Prelude.{◌≡◌, length, IfOk, IfSome};
 ghost use Rattle.docket.specs.Whole.{IsByWorker};
 ghost use Rattle.audit_text.specs.Report.{IsReportOf};
 
-use crate::dockets::{SHEET, SMALL, docket_of, room};
-use crate::outcome::{Outcome, begin, end};
+use crate::dockets::{SMALL_DOCKET, SMALL_SHEET, docket_of, output_buffer};
+use crate::outcome::{Outcome, mark_call_begin, mark_call_end};
 use docket::{Docket, DocketFault, Journal};
 use match_audit::{AuditFault, AuditReport, ReplayFault, Replayed, audit, check, counts, replay};
 use match_model::{ProgrammeNo, ResidentNo};
@@ -17,14 +17,14 @@ use test_support::events::{A, B, X, Y};
 const OTHER_SHEET: &str = "M,x,b\nM,y,a\nF,a,1,1\nF,b,1,1\n";
 
 // The small docket's journal of nine events.
-const JOURNAL: &str =
+const SMALL_JOURNAL: &str =
     "C,full\nE,offer,a,x\nE,offer,b,y\nE,take,x,a\nE,take,y,b\nE,answer,x,a,hold\nE,answer,y,b,hold\nE,hear,a,x,hold\nE,hear,b,y,hold\nE,close\n";
 
-// The rows of the report about the sheet in `BLOCKED`.
-const UNSTABLE: &str = "S,unstable\nB,y,a\n";
+// The rows of the report about the sheet in `BLOCKED_DOCKET`.
+const UNSTABLE_REPORT: &str = "S,unstable\nB,y,a\n";
 
 // A docket whose sheet has a blocking pair.
-const BLOCKED: &str = "Q,a,2\nP,a,x,y\nR,x,a\nR,y,a\nM,x,a\nU,y\nF,a,1,2\n";
+const BLOCKED_DOCKET: &str = "Q,a,2\nP,a,x,y\nR,x,a\nR,y,a\nM,x,a\nU,y\nF,a,1,2\n";
 
 // Whether the report has the blocking pair of the second resident and the only programme, and nothing else.
 fn is_blocked(report: &AuditReport) -> bool {
@@ -36,26 +36,26 @@ fn is_blocked(report: &AuditReport) -> bool {
 
 /// Audits a sheet with a blocking pair.
 pub(super) fn audited<W: Write>(alloc: Global, out: &mut W) -> Outcome {
-    let Some(docket) = docket_of(alloc, &[BLOCKED]) else {
+    let Some(docket) = docket_of(alloc, &[BLOCKED_DOCKET]) else {
         return Outcome::Wrong;
     };
     let Some(sheet) = docket.sheet() else {
         return Outcome::Wrong;
     };
-    begin(out);
+    mark_call_begin(out);
     let answer = audit(alloc, docket.instance(), sheet);
-    end(out);
+    mark_call_end(out);
     match answer {
-        Ok(report) => Outcome::at_once(is_blocked(&report)),
+        Ok(report) => Outcome::of_first_answer(is_blocked(&report)),
         Err(AuditFault::Memory) => match audit(alloc, docket.instance(), sheet) {
-            Ok(report) => Outcome::after_memory(is_blocked(&report)),
+            Ok(report) => Outcome::after_memory_fault(is_blocked(&report)),
             Err(_) => Outcome::Wrong,
         },
         Err(_) => Outcome::Wrong,
     }
 }
 
-// The report about the sheet in `BLOCKED`: the second resident and the only programme form a blocking pair.
+// The report about the sheet in `BLOCKED_DOCKET`: the second resident and the only programme form a blocking pair.
 fn blocked_report(alloc: Global, docket: &Docket) -> Result<AuditReport, AllocError>
     requires residents { length docket.now.instance.resident_lists ≡ 2 }
     requires programmes { length docket.now.instance.quotas ≡ 1 }
@@ -71,8 +71,9 @@ fn blocked_report(alloc: Global, docket: &Docket) -> Result<AuditReport, AllocEr
 }
 
 /// Writes the report about a sheet with a blocking pair.
-pub(super) fn report<W: Write>(alloc: Global, out: &mut W) -> Outcome {
-    let (Some(docket), Ok(mut room)) = (docket_of(alloc, &[BLOCKED]), room(alloc)) else {
+pub(super) fn write_blocked_report<W: Write>(alloc: Global, out: &mut W) -> Outcome {
+    let (Some(docket), Ok(mut output)) = (docket_of(alloc, &[BLOCKED_DOCKET]), output_buffer(alloc))
+    else {
         return Outcome::Wrong;
     };
     let inst = docket.instance();
@@ -82,16 +83,17 @@ pub(super) fn report<W: Write>(alloc: Global, out: &mut W) -> Outcome {
     let Ok(report) = blocked_report(alloc, &docket) else {
         return Outcome::Wrong;
     };
-    begin(out);
-    let answer = write_report(alloc, &docket, &report, &mut room);
-    end(out);
+    mark_call_begin(out);
+    let answer = write_report(alloc, &docket, &report, &mut output);
+    mark_call_end(out);
     if answer == Err(DocketFault::Memory) {
-        let untouched = room.is_empty() && is_blocked(&report);
-        let second_answer = write_report(alloc, &docket, &report, &mut room);
-        let is_whole = second_answer == Ok(()) && room.as_slice() == UNSTABLE.as_bytes();
-        return Outcome::after_memory(untouched && is_whole);
+        let is_unchanged = output.is_empty() && is_blocked(&report);
+        let second_answer = write_report(alloc, &docket, &report, &mut output);
+        let is_second_right = second_answer == Ok(())
+            && output.as_slice() == UNSTABLE_REPORT.as_bytes();
+        return Outcome::after_memory_fault(is_unchanged && is_second_right);
     }
-    Outcome::at_once(answer == Ok(()) && room.as_slice() == UNSTABLE.as_bytes())
+    Outcome::of_first_answer(answer == Ok(()) && output.as_slice() == UNSTABLE_REPORT.as_bytes())
 }
 
 // Whether a replay found nine good events, which lead to the result of the small docket.
@@ -118,37 +120,40 @@ fn replay_of(alloc: Global, docket: &Docket) -> Result<Replayed, ReplayFault> {
 
 /// Replays a journal.
 pub(super) fn replayed<W: Write>(alloc: Global, out: &mut W) -> Outcome {
-    let Some(docket) = docket_of(alloc, &[SMALL, JOURNAL]) else {
+    let Some(docket) = docket_of(alloc, &[SMALL_DOCKET, SMALL_JOURNAL]) else {
         return Outcome::Wrong;
     };
-    begin(out);
+    mark_call_begin(out);
     let answer = replay_of(alloc, &docket);
-    end(out);
+    mark_call_end(out);
     if matches!(answer, Err(ReplayFault::Memory)) {
-        return Outcome::after_memory(is_good(&replay_of(alloc, &docket)));
+        return Outcome::after_memory_fault(is_good(&replay_of(alloc, &docket)));
     }
-    Outcome::at_once(is_good(&answer))
+    Outcome::of_first_answer(is_good(&answer))
 }
 
 /// Writes the answer of a replay.
-pub(super) fn answer<W: Write>(alloc: Global, out: &mut W) -> Outcome {
-    let (Some(docket), Ok(mut room)) = (docket_of(alloc, &[SMALL, JOURNAL]), room(alloc)) else {
+pub(super) fn write_good_replay<W: Write>(alloc: Global, out: &mut W) -> Outcome {
+    let (Some(docket), Ok(mut output)) = (
+        docket_of(alloc, &[SMALL_DOCKET, SMALL_JOURNAL]),
+        output_buffer(alloc),
+    ) else {
         return Outcome::Wrong;
     };
     let Ok(replayed) = replay_of(alloc, &docket) else {
         return Outcome::Wrong;
     };
-    let good = Ok(replayed);
-    begin(out);
-    let answer = write_replay(alloc, &docket, &good, None, &mut room);
-    end(out);
+    let good_answer = Ok(replayed);
+    mark_call_begin(out);
+    let answer = write_replay(alloc, &docket, &good_answer, None, &mut output);
+    mark_call_end(out);
     if answer == Err(DocketFault::Memory) {
-        let untouched = room.is_empty() && is_good(&good);
-        let second_answer = write_replay(alloc, &docket, &good, None, &mut room);
-        let is_whole = second_answer == Ok(()) && room.as_slice() == b"G,9\n".as_slice();
-        return Outcome::after_memory(untouched && is_whole);
+        let is_unchanged = output.is_empty() && is_good(&good_answer);
+        let second_answer = write_replay(alloc, &docket, &good_answer, None, &mut output);
+        let is_second_right = second_answer == Ok(()) && output.as_slice() == b"G,9\n".as_slice();
+        return Outcome::after_memory_fault(is_unchanged && is_second_right);
     }
-    Outcome::at_once(answer == Ok(()) && room.as_slice() == b"G,9\n".as_slice())
+    Outcome::of_first_answer(answer == Ok(()) && output.as_slice() == b"G,9\n".as_slice())
 }
 
 // The answer of a check of the docket's journal against its sheet; `NotClosed` if the journal or the
@@ -162,30 +167,32 @@ fn check_of(alloc: Global, docket: &Docket) -> Result<Replayed, ReplayFault> {
 }
 
 // Whether the answer is that the sheet differs for the first resident.
-fn differs(answer: &Result<Replayed, ReplayFault>) -> bool {
+fn sheet_differs(answer: &Result<Replayed, ReplayFault>) -> bool {
     matches!(answer, Err(ReplayFault::SheetDiffers(X)))
 }
 
 /// Checks a journal against another sheet, and against its own sheet.
 pub(super) fn checked<W: Write>(alloc: Global, out: &mut W) -> Outcome {
-    let (Some(other), Some(own)) = (
-        docket_of(alloc, &[SMALL, JOURNAL, OTHER_SHEET]),
-        docket_of(alloc, &[SMALL, JOURNAL, SHEET]),
+    let (Some(other_docket), Some(own_docket)) = (
+        docket_of(alloc, &[SMALL_DOCKET, SMALL_JOURNAL, OTHER_SHEET]),
+        docket_of(alloc, &[SMALL_DOCKET, SMALL_JOURNAL, SMALL_SHEET]),
     ) else {
         return Outcome::Wrong;
     };
-    begin(out);
-    let answer = check_of(alloc, &other);
-    end(out);
-    let is_own_good = is_good(&check_of(alloc, &own));
+    mark_call_begin(out);
+    let answer = check_of(alloc, &other_docket);
+    mark_call_end(out);
+    let is_own_sheet_good = is_good(&check_of(alloc, &own_docket));
     if matches!(answer, Err(ReplayFault::Memory)) {
-        return Outcome::after_memory(is_own_good && differs(&check_of(alloc, &other)));
+        return Outcome::after_memory_fault(
+            is_own_sheet_good && sheet_differs(&check_of(alloc, &other_docket)),
+        );
     }
-    Outcome::at_once(is_own_good && differs(&answer))
+    Outcome::of_first_answer(is_own_sheet_good && sheet_differs(&answer))
 }
 
 // The small docket's journal with the worker of each event. There are two workers.
-const WORKED: &str =
+const JOURNAL_BY_WORKER: &str =
     "C,full,2\nE,offer,a,x,0\nE,offer,b,y,1\nE,take,x,a,0\nE,take,y,b,1\nE,answer,x,a,hold,0\nE,answer,y,b,hold,1\nE,hear,a,x,hold,0\nE,hear,b,y,hold,1\nE,close,0\n";
 
 // How many events each worker made, if the journal is by worker.
@@ -193,26 +200,26 @@ fn counts_of(alloc: Global, journal: &Journal) -> Result<Vec<u64>, AuditFault>
     requires { IfSome journal.now.by (IsByWorker journal.now.events) }
 {
     match &journal.by {
-        Some(by) => counts(alloc, by.workers, by.who.as_slice()),
+        Some(by_worker) => counts(alloc, by_worker.workers, by_worker.who.as_slice()),
         None => Err(AuditFault::WrongSize),
     }
 }
 
 /// Counts the events of two workers.
 pub(super) fn counted<W: Write>(alloc: Global, out: &mut W) -> Outcome {
-    let Some(docket) = docket_of(alloc, &[SMALL, WORKED]) else {
+    let Some(docket) = docket_of(alloc, &[SMALL_DOCKET, JOURNAL_BY_WORKER]) else {
         return Outcome::Wrong;
     };
     let Some(journal) = docket.journal() else {
         return Outcome::Wrong;
     };
-    begin(out);
+    mark_call_begin(out);
     let answer = counts_of(alloc, journal);
-    end(out);
+    mark_call_end(out);
     match answer {
-        Ok(counts) => Outcome::at_once(counts.as_slice() == [5, 4].as_slice()),
+        Ok(counts) => Outcome::of_first_answer(counts.as_slice() == [5, 4].as_slice()),
         Err(AuditFault::Memory) => match counts_of(alloc, journal) {
-            Ok(counts) => Outcome::after_memory(counts.as_slice() == [5, 4].as_slice()),
+            Ok(counts) => Outcome::after_memory_fault(counts.as_slice() == [5, 4].as_slice()),
             Err(_) => Outcome::Wrong,
         },
         Err(_) => Outcome::Wrong,

@@ -1,12 +1,12 @@
 //! The calls of `match_model`.
-use crate::outcome::{Outcome, begin, end};
+use crate::outcome::{Outcome, mark_call_begin, mark_call_end};
 use match_model::{Assignment, InstanceBuilder, ModelFault, ResidentNo};
 use std::alloc::Global;
 use std::io::Write;
 use test_support::events::{A, X};
 
 // Whether the builder's instance has these numbers of members and of acceptable pairs.
-fn has(builder: InstanceBuilder, programmes: u32, residents: u32, pairs: u32) -> bool {
+fn has_sizes(builder: InstanceBuilder, programmes: u32, residents: u32, pairs: u32) -> bool {
     match builder.finish() {
         Ok(instance) => {
             instance.programmes() == programmes
@@ -18,7 +18,7 @@ fn has(builder: InstanceBuilder, programmes: u32, residents: u32, pairs: u32) ->
 }
 
 // A builder with one programme, which has one place, and with one resident.
-fn one_of_each(alloc: Global) -> Result<InstanceBuilder, ModelFault> {
+fn one_member_each(alloc: Global) -> Result<InstanceBuilder, ModelFault> {
     let mut builder = InstanceBuilder::new(alloc);
     builder.add_programme(1)?;
     builder.add_resident()?;
@@ -28,74 +28,74 @@ fn one_of_each(alloc: Global) -> Result<InstanceBuilder, ModelFault> {
 /// Adds a programme.
 pub(super) fn add_programme<W: Write>(alloc: Global, out: &mut W) -> Outcome {
     let mut builder = InstanceBuilder::new(alloc);
-    begin(out);
+    mark_call_begin(out);
     let answer = builder.add_programme(1);
-    end(out);
+    mark_call_end(out);
     if answer == Err(ModelFault::Memory) {
-        let second_is_right = builder.add_programme(1) == Ok(A);
-        return Outcome::after_memory(second_is_right && has(builder, 1, 0, 0));
+        let is_second_right = builder.add_programme(1) == Ok(A);
+        return Outcome::after_memory_fault(is_second_right && has_sizes(builder, 1, 0, 0));
     }
-    Outcome::at_once(answer == Ok(A) && has(builder, 1, 0, 0))
+    Outcome::of_first_answer(answer == Ok(A) && has_sizes(builder, 1, 0, 0))
 }
 
 /// Adds a resident.
 pub(super) fn add_resident<W: Write>(alloc: Global, out: &mut W) -> Outcome {
     let mut builder = InstanceBuilder::new(alloc);
-    begin(out);
+    mark_call_begin(out);
     let answer = builder.add_resident();
-    end(out);
+    mark_call_end(out);
     if answer == Err(ModelFault::Memory) {
-        let second_is_right = builder.add_resident() == Ok(X);
-        return Outcome::after_memory(second_is_right && has(builder, 0, 1, 0));
+        let is_second_right = builder.add_resident() == Ok(X);
+        return Outcome::after_memory_fault(is_second_right && has_sizes(builder, 0, 1, 0));
     }
-    Outcome::at_once(answer == Ok(X) && has(builder, 0, 1, 0))
+    Outcome::of_first_answer(answer == Ok(X) && has_sizes(builder, 0, 1, 0))
 }
 
 // Whether the resident's list can be given, so that the programme and the resident are an acceptable
 // pair.
 fn pairs_with_resident(mut builder: InstanceBuilder) -> bool {
-    builder.resident_list(X, &[A]) == Ok(()) && has(builder, 1, 1, 1)
+    builder.resident_list(X, &[A]) == Ok(()) && has_sizes(builder, 1, 1, 1)
 }
 
 /// Gives a programme's list.
 pub(super) fn programme_list<W: Write>(alloc: Global, out: &mut W) -> Outcome {
-    let Ok(mut builder) = one_of_each(alloc) else {
+    let Ok(mut builder) = one_member_each(alloc) else {
         return Outcome::Wrong;
     };
-    begin(out);
+    mark_call_begin(out);
     let answer = builder.programme_list(A, &[X]);
-    end(out);
+    mark_call_end(out);
     if answer == Err(ModelFault::Memory) {
-        let second_is_right = builder.programme_list(A, &[X]) == Ok(());
-        return Outcome::after_memory(second_is_right && pairs_with_resident(builder));
+        let is_second_right = builder.programme_list(A, &[X]) == Ok(());
+        return Outcome::after_memory_fault(is_second_right && pairs_with_resident(builder));
     }
-    Outcome::at_once(answer == Ok(()) && pairs_with_resident(builder))
+    Outcome::of_first_answer(answer == Ok(()) && pairs_with_resident(builder))
 }
 
 // Whether the programme's list can be given, so that the programme and the resident are an acceptable
 // pair.
 fn pairs_with_programme(mut builder: InstanceBuilder) -> bool {
-    builder.programme_list(A, &[X]) == Ok(()) && has(builder, 1, 1, 1)
+    builder.programme_list(A, &[X]) == Ok(()) && has_sizes(builder, 1, 1, 1)
 }
 
 /// Gives a resident's list.
 pub(super) fn resident_list<W: Write>(alloc: Global, out: &mut W) -> Outcome {
-    let Ok(mut builder) = one_of_each(alloc) else {
+    let Ok(mut builder) = one_member_each(alloc) else {
         return Outcome::Wrong;
     };
-    begin(out);
+    mark_call_begin(out);
     let answer = builder.resident_list(X, &[A]);
-    end(out);
+    mark_call_end(out);
     if answer == Err(ModelFault::Memory) {
-        let second_is_right = builder.resident_list(X, &[A]) == Ok(());
-        return Outcome::after_memory(second_is_right && pairs_with_programme(builder));
+        let is_second_right = builder.resident_list(X, &[A]) == Ok(());
+        return Outcome::after_memory_fault(is_second_right && pairs_with_programme(builder));
     }
-    Outcome::at_once(answer == Ok(()) && pairs_with_programme(builder))
+    Outcome::of_first_answer(answer == Ok(()) && pairs_with_programme(builder))
 }
 
 // A builder with a programme and a resident who rank each other.
 fn one_pair(alloc: Global) -> Result<InstanceBuilder, ModelFault> {
-    let mut builder = one_of_each(alloc)?;
+    let mut builder = one_member_each(alloc)?;
     builder.programme_list(A, &[X])?;
     builder.resident_list(X, &[A])?;
     Ok(builder)
@@ -106,14 +106,14 @@ pub(super) fn finish<W: Write>(alloc: Global, out: &mut W) -> Outcome {
     let Ok(builder) = one_pair(alloc) else {
         return Outcome::Wrong;
     };
-    begin(out);
+    mark_call_begin(out);
     let answer = builder.finish();
-    end(out);
+    mark_call_end(out);
     match answer {
-        Ok(instance) => Outcome::at_once(instance.pairs() == 1),
+        Ok(instance) => Outcome::of_first_answer(instance.pairs() == 1),
         Err(refused) => {
             if refused.fault == ModelFault::Memory {
-                Outcome::after_memory(has(refused.builder, 1, 1, 1))
+                Outcome::after_memory_fault(has_sizes(refused.builder, 1, 1, 1))
             } else {
                 Outcome::Wrong
             }
@@ -126,16 +126,16 @@ pub(super) fn finish_with_lists<W: Write>(alloc: Global, out: &mut W) -> Outcome
     let Ok(builder) = one_pair(alloc) else {
         return Outcome::Wrong;
     };
-    begin(out);
+    mark_call_begin(out);
     let answer = builder.finish_with_lists();
-    end(out);
+    mark_call_end(out);
     match answer {
         Ok((instance, lists)) => {
-            Outcome::at_once(instance.pairs() == 1 && lists.choice(X, 0) == Some(A))
+            Outcome::of_first_answer(instance.pairs() == 1 && lists.choice(X, 0) == Some(A))
         }
         Err(refused) => {
             if refused.fault == ModelFault::Memory {
-                Outcome::after_memory(has(refused.builder, 1, 1, 1))
+                Outcome::after_memory_fault(has_sizes(refused.builder, 1, 1, 1))
             } else {
                 Outcome::Wrong
             }
@@ -152,13 +152,13 @@ fn is_empty(assignment: &Assignment) -> bool {
 
 /// Makes an assignment of two residents.
 pub(super) fn assignment<W: Write>(alloc: Global, out: &mut W) -> Outcome {
-    begin(out);
+    mark_call_begin(out);
     let answer = Assignment::new(alloc, 2);
-    end(out);
+    mark_call_end(out);
     match answer {
-        Ok(assignment) => Outcome::at_once(is_empty(&assignment)),
+        Ok(assignment) => Outcome::of_first_answer(is_empty(&assignment)),
         Err(ModelFault::Memory) => match Assignment::new(alloc, 2) {
-            Ok(assignment) => Outcome::after_memory(is_empty(&assignment)),
+            Ok(assignment) => Outcome::after_memory_fault(is_empty(&assignment)),
             Err(_) => Outcome::Wrong,
         },
         Err(_) => Outcome::Wrong,

@@ -2,8 +2,8 @@
 ghost use Rattle.std.specs.Prelude.{◌≡◌, [], IfOk};
 ghost use Rattle.exchange_core.specs.Steps.{IsCoreOf};
 
-use crate::dockets::{SMALL, docket_of};
-use crate::outcome::{Outcome, begin, end};
+use crate::dockets::{SMALL_DOCKET, docket_of};
+use crate::outcome::{Outcome, mark_call_begin, mark_call_end};
 use exchange_core::{AnswerNote, Capacity, Core, CoreFault, OfferNote, Refused};
 use mailbox_rule::{
     ListPut, ListTake, MailFault, PutEnd, PutReply, RuledPut, RuledTake, TakeEnd, TakeReply,
@@ -27,17 +27,17 @@ fn refuses_a_stranger(mut core: Core, inst: &Instance) -> bool
 
 /// Opens a core.
 pub(super) fn core<W: Write>(alloc: Global, out: &mut W) -> Outcome {
-    let Some(docket) = docket_of(alloc, &[SMALL]) else {
+    let Some(docket) = docket_of(alloc, &[SMALL_DOCKET]) else {
         return Outcome::Wrong;
     };
     let inst = docket.instance();
-    begin(out);
+    mark_call_begin(out);
     let answer = Core::new(alloc, inst, Capacity::Full);
-    end(out);
+    mark_call_end(out);
     match answer {
-        Ok(core) => Outcome::at_once(refuses_a_stranger(core, inst)),
+        Ok(core) => Outcome::of_first_answer(refuses_a_stranger(core, inst)),
         Err(CoreFault::Memory) => match Core::new(alloc, inst, Capacity::Full) {
-            Ok(core) => Outcome::after_memory(refuses_a_stranger(core, inst)),
+            Ok(core) => Outcome::after_memory_fault(refuses_a_stranger(core, inst)),
             Err(_) => Outcome::Wrong,
         },
         Err(_) => Outcome::Wrong,
@@ -60,13 +60,13 @@ pub(super) fn mailbox_of_two<R: Wait + Copy + Drop, W: Write>(
     alloc: Global,
     out: &mut W,
 ) -> Outcome {
-    begin(out);
+    mark_call_begin(out);
     let answer = mailbox::<u32, R>(alloc, rt, 2);
-    end(out);
+    mark_call_end(out);
     match answer {
-        Ok((put, take)) => Outcome::at_once(has_two_places(put, take)),
+        Ok((put, take)) => Outcome::of_first_answer(has_two_places(put, take)),
         Err(MailFault::Memory) => match mailbox::<u32, R>(alloc, rt, 2) {
-            Ok((put, take)) => Outcome::after_memory(has_two_places(put, take)),
+            Ok((put, take)) => Outcome::after_memory_fault(has_two_places(put, take)),
             Err(_) => Outcome::Wrong,
         },
         Err(_) => Outcome::Wrong,
@@ -80,13 +80,13 @@ fn has_one_place(mut list: ListPut<u32>) -> bool {
 
 /// Opens a list with room for one message.
 pub(super) fn list_put<W: Write>(alloc: Global, out: &mut W) -> Outcome {
-    begin(out);
+    mark_call_begin(out);
     let answer = ListPut::with_room(alloc, 1);
-    end(out);
+    mark_call_end(out);
     match answer {
-        Ok(list) => Outcome::at_once(has_one_place(list)),
+        Ok(list) => Outcome::of_first_answer(has_one_place(list)),
         Err(MailFault::Memory) => match ListPut::with_room(alloc, 1) {
-            Ok(list) => Outcome::after_memory(has_one_place(list)),
+            Ok(list) => Outcome::after_memory_fault(has_one_place(list)),
             Err(_) => Outcome::Wrong,
         },
         Err(_) => Outcome::Wrong,
@@ -94,10 +94,10 @@ pub(super) fn list_put<W: Write>(alloc: Global, out: &mut W) -> Outcome {
 }
 
 // Two programmes, the first with two places, and three residents.
-const QUOTAS: &str = "Q,a,2\nQ,b,1\nP,a,x,y,z\nP,b,x\nR,x,b,a\nR,y,a\nR,z,a\n";
+const QUOTAS_DOCKET: &str = "Q,a,2\nQ,b,1\nP,a,x,y,z\nP,b,x\nR,x,b,a\nR,y,a\nR,z,a\n";
 
 // The answers that wait for the first programme.
-fn answers(alloc: Global) -> Result<ListTake<AnswerNote>, AllocError>
+fn two_answers(alloc: Global) -> Result<ListTake<AnswerNote>, AllocError>
     ensures { IfOk result (λ end. end.taken ≡ []) }
 {
     Ok(ListTake::of(Vec::from_array(
@@ -116,7 +116,7 @@ fn answers(alloc: Global) -> Result<ListTake<AnswerNote>, AllocError>
 }
 
 // Whether the programme hears its two answers and no third answer.
-fn hears_two<T: TakeEnd<AnswerNote>>(agent: &mut ProgrammeAgent<T>) -> bool {
+fn hears_two_answers<T: TakeEnd<AnswerNote>>(agent: &mut ProgrammeAgent<T>) -> bool {
     agent.heard_log().is_empty()
         && matches!(agent.hear(), Heard::Got(_))
         && matches!(agent.hear(), Heard::Got(_))
@@ -125,35 +125,38 @@ fn hears_two<T: TakeEnd<AnswerNote>>(agent: &mut ProgrammeAgent<T>) -> bool {
 
 /// Opens a programme's agent over an end with two answers.
 pub(super) fn programme_agent<W: Write>(alloc: Global, out: &mut W) -> Outcome {
-    let (Some(docket), Ok(waiting)) = (docket_of(alloc, &[QUOTAS]), answers(alloc)) else {
+    let (Some(docket), Ok(waiting_answers)) = (
+        docket_of(alloc, &[QUOTAS_DOCKET]),
+        two_answers(alloc),
+    ) else {
         return Outcome::Wrong;
     };
     let inst = docket.instance();
     if inst.programmes() != 2 {
         return Outcome::Wrong;
     }
-    begin(out);
-    let answer = ProgrammeAgent::open(alloc, inst, A, waiting);
-    end(out);
+    mark_call_begin(out);
+    let answer = ProgrammeAgent::open(alloc, inst, A, waiting_answers);
+    mark_call_end(out);
     match answer {
-        Ok(mut agent) => Outcome::at_once(hears_two(&mut agent)),
+        Ok(mut agent) => Outcome::of_first_answer(hears_two_answers(&mut agent)),
         Err(refused) => match ProgrammeAgent::open(alloc, inst, A, refused.end) {
-            Ok(mut agent) => Outcome::after_memory(hears_two(&mut agent)),
+            Ok(mut agent) => Outcome::after_memory_fault(hears_two_answers(&mut agent)),
             Err(_) => Outcome::Wrong,
         },
     }
 }
 
 // The offers that wait for the first resident.
-fn offers(alloc: Global) -> Result<ListTake<OfferNote>, AllocError>
+fn two_offers(alloc: Global) -> Result<ListTake<OfferNote>, AllocError>
     ensures { IfOk result (λ end. end.taken ≡ []) }
 {
-    let notes = [OfferNote { programme: A }, OfferNote { programme: B }];
-    Ok(ListTake::of(Vec::from_array(alloc, notes)?))
+    let offer_notes = [OfferNote { programme: A }, OfferNote { programme: B }];
+    Ok(ListTake::of(Vec::from_array(alloc, offer_notes)?))
 }
 
 // Whether the resident takes the first of the offers that wait.
-fn takes_one<T: TakeEnd<OfferNote>>(agent: &mut ResidentAgent<T>) -> bool {
+fn takes_one_offer<T: TakeEnd<OfferNote>>(agent: &mut ResidentAgent<T>) -> bool {
     agent.taken_log().is_empty()
         && agent.ready()
         && agent.take() == Heard::Got(OfferNote { programme: A })
@@ -161,38 +164,40 @@ fn takes_one<T: TakeEnd<OfferNote>>(agent: &mut ResidentAgent<T>) -> bool {
 
 /// Opens a resident's agent over an end with two offers.
 pub(super) fn resident_agent<W: Write>(alloc: Global, out: &mut W) -> Outcome {
-    let (Some(docket), Ok(waiting)) = (docket_of(alloc, &[QUOTAS]), offers(alloc)) else {
+    let (Some(docket), Ok(waiting_offers)) = (docket_of(alloc, &[QUOTAS_DOCKET]), two_offers(alloc))
+    else {
         return Outcome::Wrong;
     };
     let inst = docket.instance();
     if inst.residents() != 3 {
         return Outcome::Wrong;
     }
-    begin(out);
-    let answer = ResidentAgent::open(alloc, inst, X, waiting);
-    end(out);
+    mark_call_begin(out);
+    let answer = ResidentAgent::open(alloc, inst, X, waiting_offers);
+    mark_call_end(out);
     match answer {
-        Ok(mut agent) => Outcome::at_once(takes_one(&mut agent)),
+        Ok(mut agent) => Outcome::of_first_answer(takes_one_offer(&mut agent)),
         Err(refused) => match ResidentAgent::open(alloc, inst, X, refused.end) {
-            Ok(mut agent) => Outcome::after_memory(takes_one(&mut agent)),
+            Ok(mut agent) => Outcome::after_memory_fault(takes_one_offer(&mut agent)),
             Err(_) => Outcome::Wrong,
         },
     }
 }
 
 // Whether a run with three residents closed with the expected matches, or the run's fault.
-fn closes<R: Threads + Wait + Sync + Send + Copy>(
+fn closes_as_expected<R: Threads + Wait + Sync + Send + Copy>(
     rt: R,
     alloc: Global,
     inst: &Instance,
 ) -> Result<bool, RunFault> {
     match run(rt, alloc, inst, Capacity::Full, 2, &OpenGate) {
-        Ok(done) => {
-            let mut is_right = done.ending == Ending::Closed && done.assignment.len() == 3;
+        Ok(finished_run) => {
+            let mut is_right = finished_run.ending == Ending::Closed
+                && finished_run.assignment.len() == 3;
             for (resident, programme) in [(X, B), (Y, A), (Z, A)] {
                 is_right = is_right
-                    && resident.0 < done.assignment.len()
-                    && done.assignment.get(resident) == Some(programme);
+                    && resident.0 < finished_run.assignment.len()
+                    && finished_run.assignment.get(resident) == Some(programme);
             }
             Ok(is_right)
         }
@@ -206,21 +211,21 @@ pub(super) fn whole_run<R: Threads + Wait + Sync + Send + Copy, W: Write>(
     alloc: Global,
     out: &mut W,
 ) -> Outcome {
-    let Some(docket) = docket_of(alloc, &[QUOTAS]) else {
+    let Some(docket) = docket_of(alloc, &[QUOTAS_DOCKET]) else {
         return Outcome::Wrong;
     };
     let inst = docket.instance();
-    begin(out);
-    let answer = closes(rt, alloc, inst);
-    end(out);
-    let is_memory = answer == Err(RunFault::Memory);
-    if !is_memory && answer != Err(RunFault::Thread) {
-        return Outcome::at_once(answer == Ok(true));
+    mark_call_begin(out);
+    let answer = closes_as_expected(rt, alloc, inst);
+    mark_call_end(out);
+    let lacks_memory = answer == Err(RunFault::Memory);
+    if !lacks_memory && answer != Err(RunFault::Thread) {
+        return Outcome::of_first_answer(answer == Ok(true));
     }
-    let second_is_right = closes(rt, alloc, inst) == Ok(true);
-    if is_memory {
-        Outcome::after_memory(second_is_right)
+    let is_second_right = closes_as_expected(rt, alloc, inst) == Ok(true);
+    if lacks_memory {
+        Outcome::after_memory_fault(is_second_right)
     } else {
-        Outcome::after_thread(second_is_right)
+        Outcome::after_thread_fault(is_second_right)
     }
 }

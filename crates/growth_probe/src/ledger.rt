@@ -3,8 +3,8 @@ ghost use Rattle.std.specs.Prelude.{◌≡◌, ℕ, [], Some, slice_get, IfOk, I
 ghost use Rattle.mailbox_rule.specs.Lists.{PutList};
 ghost use Rattle.exchange_core.specs.Mail.{Answered};
 
-use crate::dockets::{SMALL, docket_of};
-use crate::outcome::{Outcome, begin, end};
+use crate::dockets::{SMALL_DOCKET, docket_of};
+use crate::outcome::{Outcome, mark_call_begin, mark_call_end};
 use exchange_core::{AnswerNote, Capacity, OfferNote};
 use mailbox_rule::{ListPut, MailFault, PutEnd};
 use match_model::Instance;
@@ -17,7 +17,7 @@ use test_support::events::{A, X};
 
 // Two ends in memory that have no room.
 #[tactic(auto, using(match_model::proofs::Prefixes::slice_get_push_parts))]
-fn lists<M: Drop>(alloc: Global) -> Result<Vec<ListPut<M>>, MailFault>
+fn two_full_ends<M: Drop>(alloc: Global) -> Result<Vec<ListPut<M>>, MailFault>
     ensures { IfOk result (λ ends. (i : ℕ) (end : PutList M)
         → slice_get ends.items i ≡ Some end → end.puts ≡ []) }
 {
@@ -40,8 +40,8 @@ fn enters_nothing<J: ExchangeIdentity, P: PutEnd<OfferNote>, Q: PutEnd<AnswerNot
 ) -> bool
     requires { inst.now ≡ J.inst }
 {
-    let full = Err(EntryRefused::PutRefused(PutRefusal::Full));
-    ledger.enter_offer(inst, tally, A, X) == full && ledger.journal().is_empty()
+    let full_refusal = Err(EntryRefused::PutRefused(PutRefusal::Full));
+    ledger.enter_offer(inst, tally, A, X) == full_refusal && ledger.journal().is_empty()
 }
 
 // Opens a ledger over these ends. Returns whether the ledger is empty and accepts no event, or its fault with the ends.
@@ -86,20 +86,20 @@ fn opened_anew(alloc: Global, inst: &Instance, ends: Ends) -> Result<bool, (Ledg
 /// Opens a ledger of the small docket, over ends without room.
 pub(super) fn opened<W: Write>(alloc: Global, out: &mut W) -> Outcome {
     let (Some(docket), Ok(offer_ends), Ok(answer_ends)) = (
-        docket_of(alloc, &[SMALL]),
-        lists::<OfferNote>(alloc),
-        lists::<AnswerNote>(alloc),
+        docket_of(alloc, &[SMALL_DOCKET]),
+        two_full_ends::<OfferNote>(alloc),
+        two_full_ends::<AnswerNote>(alloc),
     ) else {
         return Outcome::Wrong;
     };
-    begin(out);
+    mark_call_begin(out);
     let answer = opened_anew(alloc, docket.instance(), (offer_ends, answer_ends));
-    end(out);
+    mark_call_end(out);
     match answer {
-        Ok(is_right) => Outcome::at_once(is_right),
+        Ok(is_right) => Outcome::of_first_answer(is_right),
         Err((LedgerFault::Memory, ends)) => {
             let second_answer = opened_anew(alloc, docket.instance(), ends);
-            Outcome::after_memory(matches!(second_answer, Ok(true)))
+            Outcome::after_memory_fault(matches!(second_answer, Ok(true)))
         }
         Err(_) => Outcome::Wrong,
     }

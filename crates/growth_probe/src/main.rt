@@ -54,7 +54,7 @@ const CALLS: [&str; 28] = [
 ];
 
 // Makes the call with this name, and writes a mark to `out` before the call and one after it.
-fn made<H: Threads + Wait + RandomSource + Sync + Send + Copy + Drop, W: Write>(
+fn call_outcome<H: Threads + Wait + RandomSource + Sync + Send + Copy + Drop, W: Write>(
     rt: H,
     alloc: Global,
     name: &str,
@@ -70,8 +70,8 @@ fn made<H: Threads + Wait + RandomSource + Sync + Send + Copy + Drop, W: Write>(
         "assignment" => builder::assignment(alloc, out),
         "read_docket" => dockets::read(alloc, out),
         "read_docket_with_lists" => dockets::read_with_lists(alloc, out),
-        "write_sheet" => dockets::sheet(alloc, out),
-        "write_journal" => dockets::journal(alloc, out),
+        "write_sheet" => dockets::write_small_sheet(alloc, out),
+        "write_journal" => dockets::write_closed_journal(alloc, out),
         "core" => exchange::core(alloc, out),
         "mailbox" => exchange::mailbox_of_two(rt, alloc, out),
         "list_put" => exchange::list_put(alloc, out),
@@ -80,12 +80,12 @@ fn made<H: Threads + Wait + RandomSource + Sync + Send + Copy + Drop, W: Write>(
         "resident_agent" => exchange::resident_agent(alloc, out),
         "run" => exchange::whole_run(rt, alloc, out),
         "audit" => audits::audited(alloc, out),
-        "write_report" => audits::report(alloc, out),
+        "write_report" => audits::write_blocked_report(alloc, out),
         "replay" => audits::replayed(alloc, out),
-        "write_replay" => audits::answer(alloc, out),
+        "write_replay" => audits::write_good_replay(alloc, out),
         "check" => audits::checked(alloc, out),
         "counts" => audits::counted(alloc, out),
-        _ => serving::made(rt, alloc, name, out),
+        _ => serving::call_outcome(rt, alloc, name, out),
     }
 }
 
@@ -102,7 +102,7 @@ fn call_and_print<H: Threads + Wait + RandomSource + Sync + Send + Copy + Drop, 
     name: &str,
     out: &mut W,
 ) -> bool {
-    let outcome = made(rt, alloc, name, out);
+    let outcome = call_outcome(rt, alloc, name, out);
     let text = outcome.text();
     writeln!(out, "{name} {text}").is_ok() && outcome != Outcome::Wrong
 }
@@ -113,16 +113,16 @@ fn main(rt: HostRuntime) -> ExitCode {
     };
     let alloc = rt.alloc();
     let out = &mut io::writer(&rt);
-    let mut are_right = true;
+    let mut are_calls_right = true;
     match words.first() {
-        Some(name) => are_right = call_and_print(rt, alloc, name.as_str(), out),
+        Some(name) => are_calls_right = call_and_print(rt, alloc, name.as_str(), out),
         None => {
             for name in CALLS {
-                are_right = call_and_print(rt, alloc, name, out) && are_right;
+                are_calls_right = call_and_print(rt, alloc, name, out) && are_calls_right;
             }
         }
     }
-    if are_right {
+    if are_calls_right {
         ExitCode::SUCCESS
     } else {
         ExitCode::FAILURE

@@ -17,7 +17,7 @@ pub(super) enum Outcome {
 
 impl Outcome {
     /// What a call did that answered without a fault; `is_right` says whether its answer was right.
-    pub(super) fn at_once(is_right: bool) -> Outcome {
+    pub(super) fn of_first_answer(is_right: bool) -> Outcome {
         if is_right {
             Outcome::Answered
         } else {
@@ -27,7 +27,7 @@ impl Outcome {
 
     /// What a call did that first answered that memory ran out; `is_right` says whether its second answer
     /// was right.
-    pub(super) fn after_memory(is_right: bool) -> Outcome {
+    pub(super) fn after_memory_fault(is_right: bool) -> Outcome {
         if is_right {
             Outcome::WantedMemory
         } else {
@@ -37,7 +37,7 @@ impl Outcome {
 
     /// What a call did that first answered that a worker could not be started; `is_right` says whether its
     /// second answer was right.
-    pub(super) fn after_thread(is_right: bool) -> Outcome {
+    pub(super) fn after_thread_fault(is_right: bool) -> Outcome {
         if is_right {
             Outcome::WantedThread
         } else {
@@ -57,11 +57,11 @@ impl Outcome {
 }
 
 /// Writes the mark after which growths of memory are counted.
-pub(super) fn begin<W: Write>(out: &mut W) {
+pub(super) fn mark_call_begin<W: Write>(out: &mut W) {
     let _ = out.write_all(b"call\n");
 }
 
 /// Writes the mark after which no growth of memory is counted.
-pub(super) fn end<W: Write>(out: &mut W) {
+pub(super) fn mark_call_end<W: Write>(out: &mut W) {
     let _ = out.write_all(b"done\n");
 }

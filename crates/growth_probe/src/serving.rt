@@ -1,6 +1,6 @@
 //! The calls of `residency`.
-use crate::dockets::{SHEET, SMALL, joined, room};
-use crate::outcome::{Outcome, begin, end};
+use crate::dockets::{SMALL_DOCKET, SMALL_SHEET, joined, output_buffer};
+use crate::outcome::{Outcome, mark_call_begin, mark_call_end};
 use docket::DocketFault;
 use match_pool::{OpenGate, RunFault};
 use residency::{
@@ -14,17 +14,17 @@ use std::sync::Wait;
 use std::thread::Threads;
 
 // A docket whose sheet has a blocking pair.
-const BLOCKED: &str = "Q,a,2\nP,a,x,y\nR,x,a\nR,y,a\nM,x,a\nU,y\nF,a,1,2\n";
+const BLOCKED_DOCKET: &str = "Q,a,2\nP,a,x,y\nR,x,a\nR,y,a\nM,x,a\nU,y\nF,a,1,2\n";
 
 // The journal of nineteen events of a docket with two programmes and three residents.
-const NINETEEN: [&str; 3] = [
+const NINETEEN_EVENTS: [&str; 3] = [
     "Q,a,2\nQ,b,1\nP,a,x,y,z\nP,b,x\nR,x,b,a\nR,y,a\nR,z,a\nC,full\n",
     "E,offer,a,x\nE,offer,a,y\nE,take,y,a\nE,take,x,a\nE,answer,y,a,hold\nE,answer,x,a,hold\nE,offer,b,x\nE,take,x,b\nE,answer,x,b,hold\nE,answer,x,a,release\nE,hear,a,y,hold\n",
     "E,hear,a,x,hold\nE,hear,b,x,hold\nE,hear,a,x,release\nE,offer,a,z\nE,take,z,a\nE,answer,z,a,hold\nE,hear,a,z,hold\nE,close\n",
 ];
 
 // Whether the answer is that memory ran out.
-fn is_memory(answer: &Result<Status, ServeFault>) -> bool {
+fn lacks_memory(answer: &Result<Status, ServeFault>) -> bool {
     matches!(
         answer,
         Err(
@@ -40,8 +40,8 @@ fn is_memory(answer: &Result<Status, ServeFault>) -> bool {
 struct Trial<'a> {
     order: Order,
     input: &'a [u8],
-    status: Status,
-    text: &'a str,
+    expected_status: Status,
+    expected_text: &'a str,
 }
 
 impl Trial<'_> {
@@ -60,8 +60,8 @@ impl Trial<'_> {
         }
     }
 
-    fn is_served(&self, answer: &Result<Status, ServeFault>, written: &[u8]) -> bool {
-        *answer == Ok(self.status) && written == self.text.as_bytes()
+    fn is_served(&self, answer: &Result<Status, ServeFault>, output: &[u8]) -> bool {
+        *answer == Ok(self.expected_status) && output == self.expected_text.as_bytes()
     }
 
     fn outcome<H: Threads + Wait + RandomSource + Sync + Send + Copy, W: Write>(
@@ -70,21 +70,21 @@ impl Trial<'_> {
         alloc: Global,
         out: &mut W,
     ) -> Outcome {
-        let Ok(mut room) = room(alloc) else {
+        let Ok(mut output) = output_buffer(alloc) else {
             return Outcome::Wrong;
         };
-        begin(out);
-        let answer = self.serve(rt, alloc, &mut room);
-        end(out);
-        let is_thread = matches!(answer, Err(ServeFault::Run(RunFault::Thread)));
-        if !is_thread && !is_memory(&answer) {
-            return Outcome::at_once(self.is_served(&answer, room.as_slice()));
+        mark_call_begin(out);
+        let answer = self.serve(rt, alloc, &mut output);
+        mark_call_end(out);
+        let lacks_thread = matches!(answer, Err(ServeFault::Run(RunFault::Thread)));
+        if !lacks_thread && !lacks_memory(&answer) {
+            return Outcome::of_first_answer(self.is_served(&answer, output.as_slice()));
         }
-        let untouched = room.is_empty();
-        let second_answer = self.serve(rt, alloc, &mut room);
-        if !untouched || !self.is_served(&second_answer, room.as_slice()) {
+        let is_unchanged = output.is_empty();
+        let second_answer = self.serve(rt, alloc, &mut output);
+        if !is_unchanged || !self.is_served(&second_answer, output.as_slice()) {
             Outcome::Wrong
-        } else if is_thread {
+        } else if lacks_thread {
             Outcome::WantedThread
         } else {
             Outcome::WantedMemory
@@ -93,17 +93,17 @@ impl Trial<'_> {
 }
 
 // Reads a command line that has a wrong number of workers.
-fn line<W: Write>(alloc: Global, out: &mut W) -> Outcome {
+fn wrong_line<W: Write>(alloc: Global, out: &mut W) -> Outcome {
     let words = ["match", "--workers", "9"];
-    begin(out);
+    mark_call_begin(out);
     let answer = read_line(alloc, &words);
-    end(out);
+    mark_call_end(out);
     match answer {
         Err(LineFault::Memory) => match read_line(alloc, &words) {
-            Err(fault) => Outcome::after_memory(line_status(&fault) == 2),
+            Err(fault) => Outcome::after_memory_fault(line_status(&fault) == 2),
             Ok(_) => Outcome::Wrong,
         },
-        Err(fault) => Outcome::at_once(line_status(&fault) == 2),
+        Err(fault) => Outcome::of_first_answer(line_status(&fault) == 2),
         Ok(_) => Outcome::Wrong,
     }
 }
@@ -116,9 +116,9 @@ fn matched<H: Threads + Wait + RandomSource + Sync + Send + Copy, W: Write>(
 ) -> Outcome {
     let trial = Trial {
         order: Order::Match(MatchOptions::default()),
-        input: SMALL.as_bytes(),
-        status: Status::Closed,
-        text: SHEET,
+        input: SMALL_DOCKET.as_bytes(),
+        expected_status: Status::Closed,
+        expected_text: SMALL_SHEET,
     };
     trial.outcome(rt, alloc, out)
 }
@@ -131,9 +131,9 @@ fn audited<H: Threads + Wait + RandomSource + Sync + Send + Copy, W: Write>(
 ) -> Outcome {
     let trial = Trial {
         order: Order::Audit,
-        input: BLOCKED.as_bytes(),
-        status: Status::Unstable,
-        text: "S,unstable\nB,y,a\n",
+        input: BLOCKED_DOCKET.as_bytes(),
+        expected_status: Status::Unstable,
+        expected_text: "S,unstable\nB,y,a\n",
     };
     trial.outcome(rt, alloc, out)
 }
@@ -142,20 +142,20 @@ fn audited<H: Threads + Wait + RandomSource + Sync + Send + Copy, W: Write>(
 fn replayed<H: Threads + Wait + RandomSource + Sync + Send + Copy, W: Write>(
     rt: H,
     alloc: Global,
-    nineteen: &[u8],
+    journal_bytes: &[u8],
     out: &mut W,
 ) -> Outcome {
     let trial = Trial {
         order: Order::Replay,
-        input: nineteen,
-        status: Status::ReplayGood,
-        text: "G,19\n",
+        input: journal_bytes,
+        expected_status: Status::ReplayGood,
+        expected_text: "G,19\n",
     };
     trial.outcome(rt, alloc, out)
 }
 
 /// Makes the call with this name. The result is wrong if there is no such call.
-pub(super) fn made<H: Threads + Wait + RandomSource + Sync + Send + Copy, W: Write>(
+pub(super) fn call_outcome<H: Threads + Wait + RandomSource + Sync + Send + Copy, W: Write>(
     rt: H,
     alloc: Global,
     name: &str,
@@ -164,11 +164,11 @@ pub(super) fn made<H: Threads + Wait + RandomSource + Sync + Send + Copy, W: Wri
     match name {
         "serve_match" => matched(rt, alloc, out),
         "serve_audit" => audited(rt, alloc, out),
-        "serve_replay" => match joined(alloc, &NINETEEN) {
-            Ok(nineteen) => replayed(rt, alloc, nineteen.as_slice(), out),
+        "serve_replay" => match joined(alloc, &NINETEEN_EVENTS) {
+            Ok(journal_bytes) => replayed(rt, alloc, journal_bytes.as_slice(), out),
             Err(_) => Outcome::Wrong,
         },
-        "read_line" => line(alloc, out),
+        "read_line" => wrong_line(alloc, out),
         _ => Outcome::Wrong,
     }
 }

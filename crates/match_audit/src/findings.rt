@@ -53,18 +53,18 @@ pub(crate) fn over_quota(
     loads: &[Load],
 ) -> Result<Vec<(ProgrammeNo, u32)>, AllocError>
     requires { length loads.now ≡ length inst.now.quotas }
-    ensures { IfOk result (λ over. (m : List (Option ℕ))
-        → AreLoads inst.now m loads.now → Lists (IsOver inst.now m) over.items) }
+    ensures { IfOk result (λ programmes_over. (m : List (Option ℕ))
+        → AreLoads inst.now m loads.now → Lists (IsOver inst.now m) programmes_over.items) }
 {
-    let mut over = Vec::new(alloc);
+    let mut programmes_over = Vec::new(alloc);
     for p in 0..inst.programmes() {
         let programme = ProgrammeNo(p);
         let members = loads[p as usize].members;
         if members > inst.quota(programme) {
-            over.push((programme, members))?;
+            programmes_over.push((programme, members))?;
         }
     }
-    Ok(over)
+    Ok(programmes_over)
 }
 
 /// The blocking pairs, ordered by the resident's number and then by the programme's number.
@@ -129,17 +129,22 @@ fn blocking_programmes(
 
 /// The programmes that a resident prefers to the programme held: the resident's list up to that programme. This
 /// is the whole list if that programme isn't on it or if no programme is held.
-fn preferred(inst: &Instance, resident: ResidentNo, held: Option<ProgrammeNo>) -> &[ProgrammeNo]
+fn preferred(
+    inst: &Instance,
+    resident: ResidentNo,
+    held_programme: Option<ProgrammeNo>,
+) -> &[ProgrammeNo]
     requires instance { IsInstance inst.now }
     requires member { IsResident inst.now resident }
     ensures once { HasNoRepeats result.now }
-    ensures front { IsPreferredFront (ranking_of_resident inst.now resident) held result.now }
+    ensures front { IsPreferredFront
+        (ranking_of_resident inst.now resident) held_programme result.now }
 {
     let list = inst.list_of_resident(resident);
-    let Some(held) = held else {
+    let Some(held_programme) = held_programme else {
         return list;
     };
-    match inst.rank_at_resident(resident, held) {
+    match inst.rank_at_resident(resident, held_programme) {
         Some(rank) => &list[..rank as usize],
         None => list,
     }

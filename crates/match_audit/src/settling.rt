@@ -78,14 +78,14 @@ fn offer_down_the_lists(core: &mut Core, inst: &Instance)
     ensures core { IsCoreOf inst.now core.new }
     ensures reached { IsReached inst.now core.new }
 {
-    for p in 0..inst.programmes() {
-        let mut programme = ProgrammeNo(p);
+    for starter in 0..inst.programmes() {
+        let mut programme = ProgrammeNo(starter);
         // Each turn enters an offer, or ends a chain of programmes that were released one after another.
         for _turn in 0..2 * inst.pairs() + 1 {
             match offer_once(core, inst, programme) {
-                Some(answered) => programme = answered,
-                None if programme.0 == p => break,
-                None => programme = ProgrammeNo(p),
+                Some(answered_programme) => programme = answered_programme,
+                None if programme.0 == starter => break,
+                None => programme = ProgrammeNo(starter),
             }
         }
     }
@@ -110,14 +110,14 @@ fn offer_once(core: &mut Core, inst: &Instance, programme: ProgrammeNo) -> Optio
         resident,
         programme,
     };
-    if !goes_on(core, inst, offer) || !goes_on(core, inst, take) {
+    if !enter_event(core, inst, offer) || !enter_event(core, inst, take) {
         return None;
     }
-    let first = answer_once(core, inst, resident)?;
+    let first_answered = answer_once(core, inst, resident)?;
     // If the offer is held, the programme held until then is released.
     match answer_once(core, inst, resident) {
-        Some(second) => Some(second),
-        None => Some(first),
+        Some(second_answered) => Some(second_answered),
+        None => Some(first_answered),
     }
 }
 
@@ -142,14 +142,14 @@ fn answer_once(core: &mut Core, inst: &Instance, resident: ResidentNo) -> Option
         resident,
         kind,
     };
-    if !goes_on(core, inst, answer) || !goes_on(core, inst, hear) {
+    if !enter_event(core, inst, answer) || !enter_event(core, inst, hear) {
         return None;
     }
     Some(programme)
 }
 
 /// Enters an event if the event may follow, and returns whether it was entered.
-fn goes_on(core: &mut Core, inst: &Instance, event: Event) -> bool
+fn enter_event(core: &mut Core, inst: &Instance, event: Event) -> bool
     requires core { IsCoreOf inst.now core.old }
     requires reached { IsReached inst.now core.old }
     ensures core { IsCoreOf inst.now core.new }
@@ -167,7 +167,7 @@ fn step_to_the_close(core: &mut Core, inst: &Instance)
     ensures closed { (j : List Event) × Shows inst.now Capacity.Full j core.new × IsClosed j }
 {
     law_bound();
-    for _done in 0..6 * inst.pairs() + 2 {
+    for _turn in 0..6 * inst.pairs() + 2 {
         let Some(event) = core.some_enabled(inst) else {
             return;
         };

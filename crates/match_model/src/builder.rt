@@ -22,7 +22,7 @@ pub struct InstanceBuilder {
     resident_lists: GivenLists,
     programmes_withdrawn: Vec<bool>,
     residents_withdrawn: Vec<bool>,
-    places: Vec<usize>,
+    item_places: Vec<usize>,
 }
 
 impl Model for InstanceBuilder {
@@ -87,7 +87,7 @@ impl InstanceBuilder {
             resident_lists: GivenLists::new(alloc),
             programmes_withdrawn: Vec::new(alloc),
             residents_withdrawn: Vec::new(alloc),
-            places: Vec::new(alloc),
+            item_places: Vec::new(alloc),
         }
     }
 
@@ -162,9 +162,9 @@ impl InstanceBuilder {
     {
         let owner = programme.0 as usize;
         self.programme_lists.test_owner(owner)?;
-        let others = self.resident_lists.len();
+        let resident_count = self.resident_lists.len();
         self.programme_lists
-            .give_residents(owner, residents, others, &mut self.places)?;
+            .give_residents(owner, residents, resident_count, &mut self.item_places)?;
         Ok(())
     }
 
@@ -184,9 +184,9 @@ impl InstanceBuilder {
     {
         let owner = resident.0 as usize;
         self.resident_lists.test_owner(owner)?;
-        let others = self.quotas.len();
+        let programme_count = self.quotas.len();
         self.resident_lists
-            .give_programmes(owner, programmes, others, &mut self.places)?;
+            .give_programmes(owner, programmes, programme_count, &mut self.item_places)?;
         Ok(())
     }
 
@@ -262,7 +262,7 @@ impl InstanceBuilder {
             resident_lists,
             programmes_withdrawn: _,
             residents_withdrawn: _,
-            places: _,
+            item_places: _,
         } = self;
         WrittenLists::new(programme_lists, resident_lists)
     }
@@ -272,7 +272,7 @@ impl InstanceBuilder {
         ensures within { OnOk result (IsWithin self.now.limits (instance_of self.now)) }
         ensures cause { IfErr result (IsFinishFault self.now) }
     {
-        let programmes = mutual_parts::mutual(
+        let programme_rows = mutual_parts::mutual(
             self.alloc,
             self.limits.pairs(),
             &self.programme_lists,
@@ -280,17 +280,17 @@ impl InstanceBuilder {
             &self.resident_lists,
             &self.residents_withdrawn,
         )?;
-        let (residents, choices) = mutual_parts::mutual_in_turn(
+        let (resident_rows, choices) = mutual_parts::mutual_in_turn(
             self.alloc,
             &self.resident_lists,
             &self.residents_withdrawn,
-            &programmes,
+            &programme_rows,
         )?;
-        let pairs = programmes.item_count() as u32;
+        let pairs = programme_rows.item_count() as u32;
         Ok(Instance {
             quotas: Vec::from_slice(self.alloc, &self.quotas)?,
-            programme_lists: programmes.into_residents(self.alloc)?,
-            resident_lists: residents.into_programmes(self.alloc)?,
+            programme_lists: programme_rows.into_residents(self.alloc)?,
+            resident_lists: resident_rows.into_programmes(self.alloc)?,
             choices,
             pairs,
             programmes_withdrawn: Vec::from_slice(self.alloc, &self.programmes_withdrawn)?,

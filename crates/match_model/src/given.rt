@@ -86,23 +86,23 @@ impl GivenLists {
         self.items(owner as usize)
     }
 
-    /// Gives a member a list of residents. Each resident's number has to be below `others`, and no resident may stand
-    /// on the list twice.
+    /// Gives a member a list of residents. Each resident's number has to be below `other_count`, and no resident may
+    /// stand on the list twice.
     pub(crate) fn give_residents(
         &mut self,
         owner: usize,
         residents: &[ResidentNo],
-        others: usize,
-        places: &mut Vec<usize>,
+        other_count: usize,
+        item_places: &mut Vec<usize>,
     ) -> Result<(), ModelFault>
         requires { owner < length self.old }
         ensures given { OnOk result (self.new ≡ slice_set self.old owner (Some residents.now)) }
-        ensures first_fault { AnswersOrWantsMemory (items_fault others residents.now) result }
+        ensures first_fault { AnswersOrWantsMemory (items_fault other_count residents.now) result }
         ensures err { OnErr result (self.new ≡ self.old) }
     {
         let start = self.items.len();
         push_residents(&mut self.items, residents)?;
-        match test_items(places, others, &self.items[start..]) {
+        match test_items(item_places, other_count, &self.items[start..]) {
             Ok(()) => {
                 self.spans[owner] = Some((start, self.items.len()));
                 Ok(())
@@ -119,17 +119,17 @@ impl GivenLists {
         &mut self,
         owner: usize,
         programmes: &[ProgrammeNo],
-        others: usize,
-        places: &mut Vec<usize>,
+        other_count: usize,
+        item_places: &mut Vec<usize>,
     ) -> Result<(), ModelFault>
         requires { owner < length self.old }
         ensures given { OnOk result (self.new ≡ slice_set self.old owner (Some programmes.now)) }
-        ensures first_fault { AnswersOrWantsMemory (items_fault others programmes.now) result }
+        ensures first_fault { AnswersOrWantsMemory (items_fault other_count programmes.now) result }
         ensures err { OnErr result (self.new ≡ self.old) }
     {
         let start = self.items.len();
         push_programmes(&mut self.items, programmes)?;
-        match test_items(places, others, &self.items[start..]) {
+        match test_items(item_places, other_count, &self.items[start..]) {
             Ok(()) => {
                 self.spans[owner] = Some((start, self.items.len()));
                 Ok(())

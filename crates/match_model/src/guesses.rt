@@ -6,16 +6,16 @@ use crate::member::{ProgrammeNo, ResidentNo};
 
 /// Notes the low 32 bits of a guess at this index, if the table has the index.
 #[inline(always)]
-pub(crate) fn note_guess(guesses: &mut [u32], at: usize, guess: usize) {
-    if let Some(noted) = guesses.get_mut(at) {
-        *noted = (guess % 4_294_967_296) as u32;
+pub(crate) fn note_guess(guesses: &mut [u32], index: usize, guess: usize) {
+    if let Some(entry) = guesses.get_mut(index) {
+        *entry = (guess % 4_294_967_296) as u32;
     }
 }
 
 /// The guess at this index, or 0 if the table does not have the index.
 #[inline(always)]
-pub(crate) fn guess_at(guesses: &[u32], at: usize) -> u32 {
-    guesses.get(at).copied().unwrap_or(0)
+pub(crate) fn guess_at(guesses: &[u32], index: usize) -> u32 {
+    guesses.get(index).copied().unwrap_or(0)
 }
 
 /// The rank of a programme in a list, if it is listed, by a walk along the list.

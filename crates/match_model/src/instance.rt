@@ -10,7 +10,7 @@ use crate::rows::Rows;
 use std::marker::Model;
 
 // A walk along a list up to this length takes no longer than a search.
-const SHORT: usize = 16;
+const SHORT_LIST: usize = 16;
 
 /// The quotas, and for each member the ranking of the members who rank this member too, best first.
 #[derive(Debug)]
@@ -138,11 +138,11 @@ impl Instance {
             rank (ranking_of_resident self.now offer.0) programme ≡ Some offer.1) }
     {
         let resident = self.listed_at(programme, place)?;
-        let offer = self
+        let offer_index = self
             .programme_lists
             .index(programme.0 as usize, place as usize);
-        let choice = guess_at(&self.choices.offers, offer) as usize;
-        let guess = guess_at(&self.choices.resident_ranks, choice);
+        let choice_index = guess_at(&self.choices.offers, offer_index) as usize;
+        let guess = guess_at(&self.choices.resident_ranks, choice_index);
         let rank = self.rank_by_guess(resident, programme, guess)?;
         Some((resident, rank))
     }
@@ -167,8 +167,8 @@ impl Instance {
         if resident.0 as usize >= self.resident_lists.len() {
             return None;
         }
-        let choice = self.choices.rows.find(resident.0 as usize, programme.0)?;
-        let guess = guess_at(&self.choices.programme_ranks, choice);
+        let choice_index = self.choices.rows.find(resident.0 as usize, programme.0)?;
+        let guess = guess_at(&self.choices.programme_ranks, choice_index);
         let list = self.programme_lists.row(programme.0 as usize);
         match list.get(guess as usize) {
             Some(listed) if *listed == resident => Some(guess),
@@ -184,7 +184,7 @@ impl Instance {
         ensures { result ≡ rank (ranking_of_resident self.now resident) programme }
     {
         let list = self.resident_lists.row(resident.0 as usize);
-        if list.len() <= SHORT {
+        if list.len() <= SHORT_LIST {
             return rank_of_programme(list, programme);
         }
         self.rank_by_choice(resident, programme)
@@ -195,8 +195,8 @@ impl Instance {
         requires { IsResident self.now resident }
         ensures { result ≡ rank (ranking_of_resident self.now resident) programme }
     {
-        let choice = self.choices.rows.find(resident.0 as usize, programme.0)?;
-        let guess = guess_at(&self.choices.resident_ranks, choice);
+        let choice_index = self.choices.rows.find(resident.0 as usize, programme.0)?;
+        let guess = guess_at(&self.choices.resident_ranks, choice_index);
         let list = self.resident_lists.row(resident.0 as usize);
         match list.get(guess as usize) {
             Some(listed) if *listed == programme => Some(guess),

@@ -18,11 +18,11 @@ use crate::ranking::remaining;
 use crate::rows::Rows;
 use std::alloc::{AllocError, Global};
 
-/// Appends to the open row of `kept` those items of a list that also stand in the row `row`, in the list's order.
+/// Appends to the open row of `kept_rows` those items of a list that also stand in the row `row`, in the list's order.
 /// `places` says where each number stands in `row`. For each of these items its rank among them is noted in `ranks`, in
 /// which the items of the row begin at `start`.
 fn keep(
-    kept: &mut Rows<u32>,
+    kept_rows: &mut Rows<u32>,
     items: &[u32],
     row: &[u32],
     places: &[usize],
@@ -31,112 +31,120 @@ fn keep(
 ) -> Result<(), AllocError>
     requires below { list_all (λ x. nat_lt x (length places.now)) items.now ≡ true }
     requires noted { ArePlaces row.now places.now }
-    ensures { OnOk result (kept.new
-        ≡ record kept.old { begun = kept.old.begun ++ filter (is_listed row.now) items.now }) }
+    ensures { OnOk result (kept_rows.new ≡ record kept_rows.old {
+      begun = kept_rows.old.begun ++ filter (is_listed row.now) items.now;
+    }) }
 {
     let mut rank: usize = 0;
     for number in items {
         if stands_in(places, row, *number) {
             note_guess(ranks, start.wrapping_add(places[*number as usize]), rank);
             rank = rank.wrapping_add(1);
-            kept.push(*number)?;
+            kept_rows.push(*number)?;
         }
     }
     Ok(())
 }
 
-/// Whether this many items are more than the limit `most`. They never are if there is no limit.
-fn is_over(most: Option<usize>, count: usize) -> bool
-    ensures { result ≡ are_over most count }
+/// Whether this many items are more than the limit `most_items`. They never are if there is no limit.
+fn is_over(most_items: Option<usize>, item_count: usize) -> bool
+    ensures { result ≡ are_over most_items item_count }
 {
-    match most {
-        Some(most) => count > most,
+    match most_items {
+        Some(most_items) => item_count > most_items,
         None => false,
     }
 }
 
 /// For how many of these items memory is reserved: for all of them, but at most for the limit, if there is a limit.
-fn room_for(most: Option<usize>, count: usize) -> usize
-    ensures { result ≤ count }
+fn room_for(most_items: Option<usize>, item_count: usize) -> usize
+    ensures { result ≤ item_count }
 {
-    match most {
-        Some(most) => count.min(most),
-        None => count,
+    match most_items {
+        Some(most_items) => item_count.min(most_items),
+        None => item_count,
     }
 }
 
 /// For each list, those of its items that stand in the row of the list's owner. Fails as soon as these items together
-/// are more than the limit. All numbers are below `others`. For each item of the rows its rank in the new list is noted
-/// in `ranks`.
-fn all_kept(
+/// are more than the limit. All numbers are below `other_count`. For each item of the rows its rank in the new list is
+/// noted in `ranks`.
+fn rows_kept(
     alloc: Global,
-    most: Option<usize>,
+    most_items: Option<usize>,
     lists: &GivenLists,
     withdrawn: &[bool],
-    others: usize,
+    other_count: usize,
     rows: &Rows<u32>,
     ranks: &mut [u32],
 ) -> Result<Rows<u32>, ModelFault>
     requires flags { length withdrawn.now ≡ length lists.now }
-    requires lists { AreLists lists.now others }
-    requires rows { AreRows (length lists.now) others rows.now.rows }
+    requires lists { AreLists lists.now other_count }
+    requires rows { AreRows (length lists.now) other_count rows.now.rows }
     ensures lists { IfOk result (λ made. made ≡ record {
       rows = kept_lists
           (lists_left lists.now withdrawn.now) rows.now.rows;
       begun = [];
     }) }
-    ensures within { OnOk result (are_over most
+    ensures within { OnOk result (are_over most_items
         (sum_by length (kept_lists (lists_left lists.now withdrawn.now) rows.now.rows)) ≡ false) }
-    ensures cause { IfErr result (IsGatherFault most
+    ensures cause { IfErr result (IsGatherFault most_items
         (sum_by length (kept_lists (lists_left lists.now withdrawn.now) rows.now.rows))) }
 {
-    let mut places = vec![in alloc; 0; others]?;
-    let room = room_for(most, rows.item_count());
-    let mut kept = Rows::with_capacity(alloc, lists.len(), room)?;
+    let mut places = vec![in alloc; 0; other_count]?;
+    let reserved_items = room_for(most_items, rows.item_count());
+    let mut kept_rows = Rows::with_capacity(alloc, lists.len(), reserved_items)?;
     for owner in 0..lists.len() {
         let row = rows.row(owner);
         note_places(&mut places, row);
         let items = remaining(lists, withdrawn, owner);
-        keep(&mut kept, items, row, &places, rows.index(owner, 0), ranks)?;
-        kept.end_row()?;
-        if is_over(most, kept.item_count()) {
+        keep(
+            &mut kept_rows,
+            items,
+            row,
+            &places,
+            rows.index(owner, 0),
+            ranks,
+        )?;
+        kept_rows.end_row()?;
+        if is_over(most_items, kept_rows.item_count()) {
             return Err(ModelFault::TooManyPairs);
         }
     }
-    Ok(kept)
+    Ok(kept_rows)
 }
 
 /// For each member, those on the member's list who list this member too, in order. Fails if these items together are
-/// more than `most`.
+/// more than `most_items`.
 pub(crate) fn mutual(
     alloc: Global,
-    most: usize,
-    mine: &GivenLists,
-    mine_withdrawn: &[bool],
-    theirs: &GivenLists,
-    theirs_withdrawn: &[bool],
+    most_items: usize,
+    own_lists: &GivenLists,
+    own_withdrawn: &[bool],
+    other_lists: &GivenLists,
+    other_withdrawn: &[bool],
 ) -> Result<Rows<u32>, ModelFault>
-    requires few { length theirs.now < 2 ^ 32 }
-    requires flags { length mine_withdrawn.now ≡ length mine.now }
-    requires other_flags { length theirs_withdrawn.now ≡ length theirs.now }
-    requires lists { AreLists mine.now (length theirs.now) }
-    requires others { AreLists theirs.now (length mine.now) }
+    requires few { length other_lists.now < 2 ^ 32 }
+    requires flags { length own_withdrawn.now ≡ length own_lists.now }
+    requires other_flags { length other_withdrawn.now ≡ length other_lists.now }
+    requires lists { AreLists own_lists.now (length other_lists.now) }
+    requires others { AreLists other_lists.now (length own_lists.now) }
     ensures lists { IfOk result (λ made. made ≡ record {
-      rows = mutual_left mine.now mine_withdrawn.now theirs.now theirs_withdrawn.now;
+      rows = mutual_left own_lists.now own_withdrawn.now other_lists.now other_withdrawn.now;
       begun = [];
     }) }
-    ensures within { OnOk result (are_over (Some most) (sum_by length
-        (mutual_left mine.now mine_withdrawn.now theirs.now theirs_withdrawn.now)) ≡ false) }
-    ensures cause { IfErr result (IsGatherFault (Some most)
-        (sum_by length (mutual_left mine.now mine_withdrawn.now theirs.now theirs_withdrawn.now))) }
+    ensures within { OnOk result (are_over (Some most_items) (sum_by length (mutual_left
+        own_lists.now own_withdrawn.now other_lists.now other_withdrawn.now)) ≡ false) }
+    ensures cause { IfErr result (IsGatherFault (Some most_items) (sum_by length (mutual_left
+        own_lists.now own_withdrawn.now other_lists.now other_withdrawn.now))) }
 {
-    let rows = owners(alloc, mine.len(), theirs, theirs_withdrawn)?;
-    all_kept(
+    let rows = owners(alloc, own_lists.len(), other_lists, other_withdrawn)?;
+    rows_kept(
         alloc,
-        Some(most),
-        mine,
-        mine_withdrawn,
-        theirs.len(),
+        Some(most_items),
+        own_lists,
+        own_withdrawn,
+        other_lists.len(),
         &rows,
         &mut [],
     )
@@ -146,32 +154,32 @@ pub(crate) fn mutual(
 /// choices. The mutual lists are shorter, and have exactly the members who are listed back.
 pub(crate) fn mutual_in_turn(
     alloc: Global,
-    mine: &GivenLists,
-    mine_withdrawn: &[bool],
-    theirs: &Rows<u32>,
+    own_lists: &GivenLists,
+    own_withdrawn: &[bool],
+    other_rows: &Rows<u32>,
 ) -> Result<(Rows<u32>, Choices), ModelFault>
-    requires few { length theirs.now.rows < 2 ^ 32 }
-    requires flags { length mine_withdrawn.now ≡ length mine.now }
-    requires lists { AreLists mine.now (length theirs.now.rows) }
+    requires few { length other_rows.now.rows < 2 ^ 32 }
+    requires flags { length own_withdrawn.now ≡ length own_lists.now }
+    requires lists { AreLists own_lists.now (length other_rows.now.rows) }
     requires below { All (λ list.
-        list_all (λ x. nat_lt x (length mine.now)) list ≡ true) theirs.now.rows }
-    requires distinct { All (λ list. has_no_repeats list ≡ true) theirs.now.rows }
+        list_all (λ x. nat_lt x (length own_lists.now)) list ≡ true) other_rows.now.rows }
+    requires distinct { All (λ list. has_no_repeats list ≡ true) other_rows.now.rows }
     ensures lists { IfOk result (λ made. made.0 ≡ record {
       rows = mutual_lists
-          (lists_left mine.now mine_withdrawn.now) theirs.now.rows;
+          (lists_left own_lists.now own_withdrawn.now) other_rows.now.rows;
       begun = [];
     }) }
     ensures choices { IfOk result (λ made. AreChoices made.0.rows made.1.rows.rows) }
     ensures cause { IfErr result (λ fault. fault ≡ Memory) }
 {
-    let (rows, places, offers) = owners_of_rows(alloc, mine.len(), theirs)?;
-    let mut ranks: Vec<u32> = vec![in alloc; 0; theirs.item_count()]?;
-    let kept = all_kept(
+    let (rows, places, offers) = owners_of_rows(alloc, own_lists.len(), other_rows)?;
+    let mut ranks: Vec<u32> = vec![in alloc; 0; other_rows.item_count()]?;
+    let kept_rows = rows_kept(
         alloc,
         None,
-        mine,
-        mine_withdrawn,
-        theirs.len(),
+        own_lists,
+        own_withdrawn,
+        other_rows.len(),
         &rows,
         &mut ranks,
     )?;
@@ -181,5 +189,5 @@ pub(crate) fn mutual_in_turn(
         programme_ranks: places,
         offers,
     };
-    Ok((kept, choices))
+    Ok((kept_rows, choices))
 }

@@ -12,23 +12,23 @@ use crate::ranking::remaining;
 use crate::rows::Rows;
 use std::alloc::{AllocError, Global};
 
-/// For each number below `count`, how many of the lists have it.
+/// For each number below `member_count`, how many of the lists have it.
 fn row_lengths(
     alloc: Global,
-    count: usize,
+    member_count: usize,
     lists: &GivenLists,
     withdrawn: &[bool],
 ) -> Result<Vec<usize>, AllocError>
     requires few { length lists.now < 2 ^ 32 }
     requires flags { length withdrawn.now ≡ length lists.now }
     requires below { All (λ list.
-        list_all (λ x. nat_lt x count) list ≡ true) (lists_left lists.now withdrawn.now) }
+        list_all (λ x. nat_lt x member_count) list ≡ true) (lists_left lists.now withdrawn.now) }
     requires distinct { All (λ list.
         has_no_repeats list ≡ true) (lists_left lists.now withdrawn.now) }
-    ensures { IfOk result (λ counts.
-        AreCounts count (length lists.now) (lists_left lists.now withdrawn.now) counts.items) }
+    ensures { IfOk result (λ counts. AreCounts member_count
+        (length lists.now) (lists_left lists.now withdrawn.now) counts.items) }
 {
-    let mut counts: Vec<usize> = vec![in alloc; 0; count]?;
+    let mut counts: Vec<usize> = vec![in alloc; 0; member_count]?;
     for owner in 0..lists.len() {
         count_items(&mut counts, remaining(lists, withdrawn, owner));
     }
@@ -80,25 +80,25 @@ fn enter(
     }
 }
 
-/// For each number below `count`, the owners of the lists on which it stands, in rising order.
+/// For each number below `member_count`, the owners of the lists on which it stands, in rising order.
 pub(crate) fn owners(
     alloc: Global,
-    count: usize,
+    member_count: usize,
     lists: &GivenLists,
     withdrawn: &[bool],
 ) -> Result<Rows<u32>, AllocError>
     requires few { length lists.now < 2 ^ 32 }
     requires flags { length withdrawn.now ≡ length lists.now }
     requires below { All (λ list.
-        list_all (λ x. nat_lt x count) list ≡ true) (lists_left lists.now withdrawn.now) }
+        list_all (λ x. nat_lt x member_count) list ≡ true) (lists_left lists.now withdrawn.now) }
     requires distinct { All (λ list.
         has_no_repeats list ≡ true) (lists_left lists.now withdrawn.now) }
     ensures { IfOk result (λ made.
-        AreOwners count (length lists.now) (lists_left lists.now withdrawn.now) made.rows) }
+        AreOwners member_count (length lists.now) (lists_left lists.now withdrawn.now) made.rows) }
 {
-    let lengths = row_lengths(alloc, count, lists, withdrawn)?;
+    let lengths = row_lengths(alloc, member_count, lists, withdrawn)?;
     let mut rows = Rows::of_lengths(alloc, &lengths)?;
-    let mut counts: Vec<usize> = vec![in alloc; 0; count]?;
+    let mut counts: Vec<usize> = vec![in alloc; 0; member_count]?;
     for owner in 0..lists.len() {
         enter(
             &mut rows,
@@ -113,15 +113,20 @@ pub(crate) fn owners(
     Ok(rows)
 }
 
-/// For each number below `count`, how many of the rows have it.
-fn lengths_by_rows(alloc: Global, count: usize, lists: &Rows<u32>) -> Result<Vec<usize>, AllocError>
+/// For each number below `member_count`, how many of the rows have it.
+fn lengths_by_rows(
+    alloc: Global,
+    member_count: usize,
+    lists: &Rows<u32>,
+) -> Result<Vec<usize>, AllocError>
     requires few { length lists.now.rows < 2 ^ 32 }
-    requires below { All (λ list. list_all (λ x. nat_lt x count) list ≡ true) lists.now.rows }
+    requires below { All (λ list.
+        list_all (λ x. nat_lt x member_count) list ≡ true) lists.now.rows }
     requires distinct { All (λ list. has_no_repeats list ≡ true) lists.now.rows }
     ensures { IfOk result (λ counts.
-        AreCounts count (length lists.now.rows) lists.now.rows counts.items) }
+        AreCounts member_count (length lists.now.rows) lists.now.rows counts.items) }
 {
-    let mut counts: Vec<usize> = vec![in alloc; 0; count]?;
+    let mut counts: Vec<usize> = vec![in alloc; 0; member_count]?;
     for owner in 0..lists.len() {
         count_items(&mut counts, lists.row(owner));
     }
@@ -132,18 +137,19 @@ fn lengths_by_rows(alloc: Global, count: usize, lists: &Rows<u32>) -> Result<Vec
 /// `offers`.
 pub(crate) fn owners_of_rows(
     alloc: Global,
-    count: usize,
+    member_count: usize,
     lists: &Rows<u32>,
 ) -> Result<(Rows<u32>, Vec<u32>, Vec<u32>), AllocError>
     requires few { length lists.now.rows < 2 ^ 32 }
-    requires below { All (λ list. list_all (λ x. nat_lt x count) list ≡ true) lists.now.rows }
+    requires below { All (λ list.
+        list_all (λ x. nat_lt x member_count) list ≡ true) lists.now.rows }
     requires distinct { All (λ list. has_no_repeats list ≡ true) lists.now.rows }
     ensures { IfOk result (λ made.
-        AreOwners count (length lists.now.rows) lists.now.rows made.0.rows) }
+        AreOwners member_count (length lists.now.rows) lists.now.rows made.0.rows) }
 {
-    let lengths = lengths_by_rows(alloc, count, lists)?;
+    let lengths = lengths_by_rows(alloc, member_count, lists)?;
     let mut rows = Rows::of_lengths(alloc, &lengths)?;
-    let mut counts: Vec<usize> = vec![in alloc; 0; count]?;
+    let mut counts: Vec<usize> = vec![in alloc; 0; member_count]?;
     let mut places: Vec<u32> = vec![in alloc; 0; lists.item_count()]?;
     let mut offers: Vec<u32> = vec![in alloc; 0; lists.item_count()]?;
     for owner in 0..lists.len() {

@@ -22,65 +22,65 @@ pub(crate) fn test_withdrawal(withdrawn: &[bool], member: usize) -> Result<(), M
     }
 }
 
-/// Whether each item is below `others` and stands in the list once; if not, why. The table of places may have any
+/// Whether each item is below `other_count` and stands in the list once; if not, why. The table of places may have any
 /// content before the call.
 pub(crate) fn test_items(
-    places: &mut Vec<usize>,
-    others: usize,
+    item_places: &mut Vec<usize>,
+    other_count: usize,
     items: &[u32],
 ) -> Result<(), ModelFault>
-    ensures { AnswersOrWantsMemory (items_fault others items.now) result }
+    ensures { AnswersOrWantsMemory (items_fault other_count items.now) result }
 {
-    make_room(places, others)?;
-    match first_fault(places, others, items) {
+    grow_places(item_places, other_count)?;
+    match first_fault(item_places, other_count, items) {
         Some(fault) => Err(fault),
         None => Ok(()),
     }
 }
 
 /// The first fault of a list's items, found in one walk over the list. The walk also notes the places of the items.
-fn first_fault(places: &mut [usize], others: usize, items: &[u32]) -> Option<ModelFault>
-    requires { others ≤ length places.old }
-    ensures { result ≡ items_fault others items.now }
+fn first_fault(item_places: &mut [usize], other_count: usize, items: &[u32]) -> Option<ModelFault>
+    requires { other_count ≤ length item_places.old }
+    ensures { result ≡ items_fault other_count items.now }
 {
     for (place, number) in items.iter().enumerate() {
-        if *number as usize >= others {
+        if *number as usize >= other_count {
             return Some(ModelFault::NoSuchMember);
         }
-        if stands_in(places, &items[..place], *number) {
-            return Some(fault_of_repeat(others, items));
+        if stands_in(item_places, &items[..place], *number) {
+            return Some(fault_of_repeat(other_count, items));
         }
-        places[*number as usize] = place;
+        item_places[*number as usize] = place;
     }
     None
 }
 
 /// The first fault of a list that has an item twice.
-fn fault_of_repeat(others: usize, items: &[u32]) -> ModelFault
+fn fault_of_repeat(other_count: usize, items: &[u32]) -> ModelFault
     requires { has_no_repeats items.now ≡ false }
-    ensures { Some result ≡ items_fault others items.now }
+    ensures { Some result ≡ items_fault other_count items.now }
 {
-    if are_below(items, others) {
+    if are_below(items, other_count) {
         return ModelFault::ListedTwice;
     }
     ModelFault::NoSuchMember
 }
 
-/// Makes the table of places at least `others` entries long.
-fn make_room(places: &mut Vec<usize>, others: usize) -> Result<(), AllocError>
-    ensures { OnOk result (others ≤ vec_len places.new) }
+/// Makes the table of places at least `other_count` entries long.
+fn grow_places(item_places: &mut Vec<usize>, other_count: usize) -> Result<(), AllocError>
+    ensures { OnOk result (other_count ≤ vec_len item_places.new) }
 {
-    if places.len() < others {
-        places.resize(others, 0)?;
+    if item_places.len() < other_count {
+        item_places.resize(other_count, 0)?;
     }
     Ok(())
 }
 
-/// Whether each item is below `others`.
-fn are_below(items: &[u32], others: usize) -> bool
-    ensures { result ≡ list_all (λ x. nat_lt x others) items.now }
+/// Whether each item is below `other_count`.
+fn are_below(items: &[u32], other_count: usize) -> bool
+    ensures { result ≡ list_all (λ x. nat_lt x other_count) items.now }
 {
-    items.iter().all(|x| (*x as usize) < others)
+    items.iter().all(|item| (*item as usize) < other_count)
 }
 
 /// A member's list, or an empty list if the member is withdrawn.
@@ -102,11 +102,11 @@ pub(crate) fn resident_numbers(
 ) -> Result<Vec<ResidentNo>, AllocError>
     ensures { IfOk result (λ v. v.items ≡ numbers.now) }
 {
-    let mut named = Vec::with_capacity(alloc, numbers.len())?;
+    let mut residents = Vec::with_capacity(alloc, numbers.len())?;
     for number in numbers {
-        named.push_reserved(ResidentNo(*number));
+        residents.push_reserved(ResidentNo(*number));
     }
-    Ok(named)
+    Ok(residents)
 }
 
 /// The programmes with these numbers.
@@ -116,9 +116,9 @@ pub(crate) fn programme_numbers(
 ) -> Result<Vec<ProgrammeNo>, AllocError>
     ensures { IfOk result (λ v. v.items ≡ numbers.now) }
 {
-    let mut named = Vec::with_capacity(alloc, numbers.len())?;
+    let mut programmes = Vec::with_capacity(alloc, numbers.len())?;
     for number in numbers {
-        named.push_reserved(ProgrammeNo(*number));
+        programmes.push_reserved(ProgrammeNo(*number));
     }
-    Ok(named)
+    Ok(programmes)
 }

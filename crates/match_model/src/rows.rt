@@ -78,9 +78,9 @@ impl<T: Copy> Rows<T> {
               (slice_set (slice_index_or self.old.rows row []) place item);
         } }
     {
-        let at = start_of(&self.ends, row) + place;
-        self.items[at] = item;
-        at
+        let item_index = start_of(&self.ends, row) + place;
+        self.items[item_index] = item;
+        item_index
     }
 
     /// The index among all items of the item at this place of a row. No contract speaks of it, as it is only a guess.
@@ -109,27 +109,27 @@ impl<T: Copy> Rows<T> {
         self.items.len()
     }
 
-    /// The finished row with the number `place`.
+    /// The finished row with the number `row_number`.
     #[inline(always)]
-    pub(crate) fn row(&self, place: usize) -> &[T]
-        requires { place < length self.now.rows }
-        ensures { result.now ≡ slice_index_or self.now.rows place [] }
+    pub(crate) fn row(&self, row_number: usize) -> &[T]
+        requires { row_number < length self.now.rows }
+        ensures { result.now ≡ slice_index_or self.now.rows row_number [] }
     {
-        let start = start_of(&self.ends, place);
-        part(&self.items, start, self.ends[place])
+        let start = start_of(&self.ends, row_number);
+        part(&self.items, start, self.ends[row_number])
     }
 }
 
-/// Where the row with the number `place` starts, read from the ends of all rows.
+/// Where the row with the number `row_number` starts, read from the ends of all rows.
 #[inline(always)]
-fn start_of(ends: &[usize], place: usize) -> usize
-    requires { place < length ends.now }
-    ensures { result ≡ slice_index_or (0 ∷ ends.now) place 0 }
+fn start_of(ends: &[usize], row_number: usize) -> usize
+    requires { row_number < length ends.now }
+    ensures { result ≡ slice_index_or (0 ∷ ends.now) row_number 0 }
 {
-    if place == 0 {
+    if row_number == 0 {
         return 0;
     }
-    ends[place - 1]
+    ends[row_number - 1]
 }
 
 /// The items from index `start` up to index `end`, without the item at `end`.
@@ -143,21 +143,21 @@ fn part<T>(items: &[T], start: usize, end: usize) -> &[T]
 }
 
 /// The sum of these lengths. The sum is only a hint for reserving memory, so no contract speaks of it.
-fn total(lengths: &[usize]) -> usize {
-    let mut total: usize = 0;
+fn total_length(lengths: &[usize]) -> usize {
+    let mut total_length: usize = 0;
     for length in lengths {
-        total = total.saturating_add(*length);
+        total_length = total_length.saturating_add(*length);
     }
-    total
+    total_length
 }
 
-/// Appends `count` zeros to a vector.
-fn add_zeros(items: &mut Vec<u32>, count: usize) -> Result<(), AllocError>
-    ensures added { OnOk result (items.new.items ≡ items.old.items ++ replicate count 0) }
+/// Appends `zero_count` zeros to a vector.
+fn add_zeros(items: &mut Vec<u32>, zero_count: usize) -> Result<(), AllocError>
+    ensures added { OnOk result (items.new.items ≡ items.old.items ++ replicate zero_count 0) }
     ensures err { OnErr result (items.new.items ≡ items.old.items) }
 {
-    items.reserve(count)?;
-    for _ in 0..count {
+    items.reserve(zero_count)?;
+    for _ in 0..zero_count {
         items.push_reserved(0);
     }
     Ok(())
@@ -181,7 +181,7 @@ impl Rows<u32> {
     pub(crate) fn of_lengths(alloc: Global, lengths: &[usize]) -> Result<Rows<u32>, AllocError>
         ensures { IfOk result (λ made. made.rows ≡ map (λ n. replicate n 0) lengths.now) }
     {
-        let mut rows = Rows::with_capacity(alloc, lengths.len(), total(lengths))?;
+        let mut rows = Rows::with_capacity(alloc, lengths.len(), total_length(lengths))?;
         for length in lengths {
             rows.push_zeros(*length)?;
             rows.end_row()?;
@@ -189,12 +189,12 @@ impl Rows<u32> {
         Ok(rows)
     }
 
-    /// Appends `count` zeros to the open row.
-    fn push_zeros(&mut self, count: usize) -> Result<(), AllocError>
+    /// Appends `zero_count` zeros to the open row.
+    fn push_zeros(&mut self, zero_count: usize) -> Result<(), AllocError>
         ensures { OnOk result
-            (self.new ≡ record self.old { begun = self.old.begun ++ replicate count 0 }) }
+            (self.new ≡ record self.old { begun = self.old.begun ++ replicate zero_count 0 }) }
     {
-        add_zeros(&mut self.items, count)?;
+        add_zeros(&mut self.items, zero_count)?;
         Ok(())
     }
 

@@ -62,12 +62,12 @@ fn first_reason(
     ensures own { NamesOwn sheet.now resident result }
 {
     let inst = listed.instance();
-    let written = listed.lists();
-    let own = residents_reason(listed, sheet, resident, programme);
-    if let Some(reason) = own {
+    let written_lists = listed.lists();
+    let resident_reason = residents_reason(listed, sheet, resident, programme);
+    if let Some(reason) = resident_reason {
         return reason;
     }
-    let Some(rank) = written.rank_of_resident(programme, resident) else {
+    let Some(rank) = written_lists.rank_of_resident(programme, resident) else {
         return Why::NotRanked;
     };
     let quota = inst.quota(programme);
@@ -102,11 +102,11 @@ fn residents_reason(
     ensures own { IfSome result (NamesOwn sheet.now resident) }
 {
     let inst = listed.instance();
-    let written = listed.lists();
+    let written_lists = listed.lists();
     if inst.resident_withdrawn(resident) || inst.programme_withdrawn(programme) {
         return Some(Why::Withdrawn);
     }
-    let Some(rank) = written.rank_of_programme(resident, programme) else {
+    let Some(rank) = written_lists.rank_of_programme(resident, programme) else {
         return Some(Why::NotListed);
     };
     // Neither member is withdrawn, and the resident listed the programme. So if there is no rank, the programme
@@ -117,15 +117,15 @@ fn residents_reason(
     if is_member(sheet, resident, programme) {
         return Some(Why::Matched);
     }
-    let Some(own) = sheet.get(resident) else {
+    let Some(own_programme) = sheet.get(resident) else {
         return None;
     };
-    let Some(own_rank) = written.rank_of_programme(resident, own) else {
+    let Some(own_rank) = written_lists.rank_of_programme(resident, own_programme) else {
         return None;
     };
     if own_rank < rank {
         Some(Why::PrefersOwn {
-            own,
+            own: own_programme,
             own_rank,
             rank,
         })

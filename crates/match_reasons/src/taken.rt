@@ -29,7 +29,7 @@ impl Taken {
         } }
     {
         self.members += 1;
-        self.last = Some(later(self.last, place));
+        self.last = Some(later_place(self.last, place));
     }
 
     /// Whether the programme has fewer members than places, or a member who stands at this rank or behind it.
@@ -37,7 +37,7 @@ impl Taken {
         ensures { IsTrue result ↔ HasRoomAt self.now quota rank }
     {
         match self.last {
-            Some(last) => self.members < quota || rank <= last,
+            Some(last_place) => self.members < quota || rank <= last_place,
             None => self.members < quota,
         }
     }
@@ -49,7 +49,7 @@ pub(crate) fn is_member(sheet: &Assignment, resident: ResidentNo, programme: Pro
     ensures { IsTrue result ↔ IsMemberOf sheet.now resident programme }
 {
     match sheet.get(resident) {
-        Some(own) => own == programme,
+        Some(own_programme) => own_programme == programme,
         None => false,
     }
 }
@@ -65,11 +65,11 @@ fn place_of_resident(written: &WrittenLists, programme: ProgrammeNo, resident: R
 }
 
 // The larger of two places, of which the first may be none.
-fn later(last: Option<usize>, place: usize) -> usize
-    ensures { result ≡ max (unwrap_or last 0) place }
+fn later_place(last_place: Option<usize>, place: usize) -> usize
+    ensures { result ≡ max (unwrap_or last_place 0) place }
 {
-    match last {
-        Some(last) => last.max(place),
+    match last_place {
+        Some(last_place) => last_place.max(place),
         None => place,
     }
 }
@@ -80,12 +80,12 @@ pub fn places_taken(listed: &Listed, sheet: &Assignment, programme: ProgrammeNo)
     ensures { IsTaken (list_at listed.now.written.programme_lists programme) sheet.now
         programme result }
 {
-    let written = listed.lists();
+    let written_lists = listed.lists();
     let mut taken = Taken::default();
     for r in 0..sheet.len() {
         let resident = ResidentNo(r);
         if is_member(sheet, resident, programme) {
-            taken.add(place_of_resident(written, programme, resident));
+            taken.add(place_of_resident(written_lists, programme, resident));
         }
     }
     taken
@@ -98,19 +98,24 @@ pub fn all_places_taken(
     sheet: &Assignment,
     programmes: u32,
 ) -> Result<Vec<Taken>, AllocError>
-    ensures each { IfOk result (λ takens. length takens.items ≡ programmes) }
-    ensures taken { IfOk result (λ takens. AreTaken listed.now.written sheet.now takens.items) }
+    ensures each { IfOk result (λ taken_places. length taken_places.items ≡ programmes) }
+    ensures taken { IfOk result (λ taken_places.
+        AreTaken listed.now.written sheet.now taken_places.items) }
 {
-    let written = listed.lists();
-    let mut takens = vec![in alloc; Taken::default(); programmes as usize]?;
+    let written_lists = listed.lists();
+    let mut taken_places = vec![in alloc; Taken::default(); programmes as usize]?;
     for r in 0..sheet.len() {
         let resident = ResidentNo(r);
         let Some(programme) = sheet.get(resident) else {
             continue;
         };
         if programme.0 < programmes {
-            takens[programme.0 as usize].add(place_of_resident(written, programme, resident));
+            taken_places[programme.0 as usize].add(place_of_resident(
+                written_lists,
+                programme,
+                resident,
+            ));
         }
     }
-    Ok(takens)
+    Ok(taken_places)
 }

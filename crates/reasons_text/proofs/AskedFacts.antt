@@ -1,8 +1,8 @@
 -- Without a key, a name means the docket's member of this name.
 use Rattle.reasons_text.specs.Naming.{IsKeyless, Naming}
 use Rattle.reasons_text.specs.Texts.{Asks, AsksByDocket}
-use Rattle.reasons_text.specs.declared.answering.Told.{Told}
-use Rattle.reasons_text.specs.declared.answering.Told.TheVariants.{All, Resident, Pair}
+use Rattle.reasons_text.specs.declared.answering.AskedMembers.{AskedMembers as Told}
+use Rattle.reasons_text.specs.declared.answering.AskedMembers.TheVariants.{All, Resident, Pair}
 use Rattle.reasons_text.specs.declared.question.Asked.{Asked}
 use Rattle.reasons_text.specs.declared.question.Asked.TheVariants as asked
 use Rattle.reasons_text.specs.declared.side.Side.TheVariants.{Programmes, Residents}

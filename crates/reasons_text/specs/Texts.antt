@@ -18,8 +18,8 @@ use Rattle.reasons_text.specs.Naming.{MeansAlone, Naming, own_names}
 use Rattle.reasons_text.specs.declared.side.Side.TheVariants.{Programmes, Residents}
 use Rattle.reasons_text.specs.Table.{columns, rows_on}
 use Rattle.reasons_text.specs.Told.{IsTold}
-use Rattle.reasons_text.specs.declared.answering.Told.{Told}
-use Rattle.reasons_text.specs.declared.answering.Told.TheVariants.{All, Resident, Pair}
+use Rattle.reasons_text.specs.declared.answering.AskedMembers.{AskedMembers as Told}
+use Rattle.reasons_text.specs.declared.answering.AskedMembers.TheVariants.{All, Resident, Pair}
 use Rattle.reasons_text.specs.declared.question.Asked.{Asked}
 use Rattle.reasons_text.specs.declared.question.Asked.TheVariants as asked
 

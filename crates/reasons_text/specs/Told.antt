@@ -1,7 +1,7 @@
 -- Which members a question is about.
 use Rattle.match_model.specs.Instance.{Instance, IsProgramme, IsResident}
-use Rattle.reasons_text.specs.declared.answering.Told.{Told}
-use Rattle.reasons_text.specs.declared.answering.Told.TheVariants.{All, Resident, Pair}
+use Rattle.reasons_text.specs.declared.answering.AskedMembers.{AskedMembers as Told}
+use Rattle.reasons_text.specs.declared.answering.AskedMembers.TheVariants.{All, Resident, Pair}
 
 -- each member that a question names belongs to the instance
 abbrev pub IsTold : Instance → Told → Type 0

@@ -14,7 +14,7 @@ use crate::case::Case;
 use crate::fault::WhyFault;
 use crate::key::Key;
 use crate::names::{Meant, Names};
-use crate::near::{several, unknown};
+use crate::near::{shared_name, unknown_name};
 use crate::question::Asked;
 use crate::sentences::{push_first_line, push_line};
 use crate::side::{Side, member_count};
@@ -29,14 +29,14 @@ use std::random::RandomSource;
 
 // How answers are written: which names are shown for members, and whether ranks on programmes' lists are shown.
 #[derive(Clone, Copy)]
-struct Manner<'a> {
+struct AnswerManner<'a> {
     names: Names<'a>,
     without_ranks: bool,
 }
 
 // Whom the question is about: everybody, a resident, or a resident and a programme, by their numbers.
 #[derive(Clone, Copy)]
-enum Told {
+enum AskedMembers {
     All,
     Resident(ResidentNo),
     Pair(ResidentNo, ProgrammeNo),
@@ -46,7 +46,7 @@ enum Told {
 fn push_each(
     alloc: Global,
     text: &mut String,
-    manner: &Manner,
+    manner: &AnswerManner,
     resident: ResidentNo,
     programmes: &[ProgrammeNo],
     reasons: &[Why],
@@ -74,7 +74,7 @@ fn push_lines(
     alloc: Global,
     text: &mut String,
     case: &Case,
-    manner: &Manner,
+    manner: &AnswerManner,
     resident: ResidentNo,
 ) -> Result<(), AllocError>
     requires { IsResident case.now.docket.instance resident }
@@ -85,15 +85,23 @@ fn push_lines(
     let answers = case.answers(alloc, resident)?;
     let list = answers.programmes.as_slice();
     let reasons = answers.reasons.as_slice();
-    let own = case.place_of(resident);
-    push_first_line(alloc, text, &manner.names, resident, own, list, reasons)?;
+    let own_programme = case.place_of(resident);
+    push_first_line(
+        alloc,
+        text,
+        &manner.names,
+        resident,
+        own_programme,
+        list,
+        reasons,
+    )?;
     push_each(alloc, text, manner, resident, list, reasons)
 }
 
 // Adds one row for each of these programmes. Reason `i` goes into the row about programme `i`.
 fn push_rows<W: Write>(
     rows: &mut RowWriter<'_, W>,
-    manner: &Manner,
+    manner: &AnswerManner,
     resident: ResidentNo,
     programmes: &[ProgrammeNo],
     reasons: &[Why],
@@ -121,7 +129,7 @@ fn push_all_rows<W: Write>(
     alloc: Global,
     rows: &mut RowWriter<'_, W>,
     case: &Case,
-    manner: &Manner,
+    manner: &AnswerManner,
 ) -> Result<(), DocketFault>
     ensures { OnOk result
         (AddsRows W.contents case.now (naming_of manner.now.names) manner.now.without_ranks
@@ -148,7 +156,7 @@ pub fn push_rows_on<W: Write>(
     ensures { OnOk result (AddsOwnRows W.contents case.now resident rows.old rows.new) }
 {
     let key = Key::none(alloc);
-    let manner = Manner {
+    let manner = AnswerManner {
         names: Names {
             docket: case.docket(),
             key: &key,
@@ -167,14 +175,14 @@ fn write_table<W: Write>(
     alloc: Global,
     writer: &mut W,
     case: &Case,
-    manner: &Manner,
+    manner: &AnswerManner,
 ) -> Result<(), DocketFault>
     ensures { OnOk result
         (AppendsText (IsTable case.now (naming_of manner.now.names) manner.now.without_ranks)
         (W.contents writer.old) (W.contents writer.new)) }
 {
-    let mut room = room_for_rows(alloc)?;
-    let mut rows = RowWriter::new(writer, &mut room);
+    let mut row_buffer = room_for_rows(alloc)?;
+    let mut rows = RowWriter::new(writer, &mut row_buffer);
     push_columns(&mut rows)?;
     push_all_rows(alloc, &mut rows, case, manner)?;
     rows.send()?;
@@ -182,7 +190,7 @@ fn write_table<W: Write>(
 }
 
 // The row with the columns' names, and then all residents' rows. The text is made in memory, so only memory can fail.
-fn table_of(alloc: Global, case: &Case, manner: &Manner) -> Result<Vec<u8>, AllocError>
+fn table_of(alloc: Global, case: &Case, manner: &AnswerManner) -> Result<Vec<u8>, AllocError>
     ensures { IfOk result (λ text.
         IsTable case.now (naming_of manner.now.names) manner.now.without_ranks text.items) }
 {
@@ -197,7 +205,7 @@ fn table_of(alloc: Global, case: &Case, manner: &Manner) -> Result<Vec<u8>, Allo
 fn lines_of(
     alloc: Global,
     case: &Case,
-    manner: &Manner,
+    manner: &AnswerManner,
     resident: ResidentNo,
 ) -> Result<Vec<u8>, AllocError>
     requires { IsResident case.now.docket.instance resident }
@@ -213,7 +221,7 @@ fn lines_of(
 fn line_of(
     alloc: Global,
     case: &Case,
-    manner: &Manner,
+    manner: &AnswerManner,
     resident: ResidentNo,
     programme: ProgrammeNo,
 ) -> Result<Vec<u8>, AllocError>
@@ -237,21 +245,28 @@ fn line_of(
 }
 
 // The text that answers the question, whose names were replaced by the members' numbers.
-fn told_text(alloc: Global, case: &Case, manner: &Manner, whom: Told) -> Result<Vec<u8>, AllocError>
+fn answer_text(
+    alloc: Global,
+    case: &Case,
+    manner: &AnswerManner,
+    whom: AskedMembers,
+) -> Result<Vec<u8>, AllocError>
     requires { IsTold case.now.docket.instance whom }
     ensures { IfOk result (λ text.
         IsTextOf case.now (naming_of manner.now.names) manner.now.without_ranks whom text.items) }
 {
     match whom {
-        Told::All => table_of(alloc, case, manner),
-        Told::Resident(resident) => lines_of(alloc, case, manner, resident),
-        Told::Pair(resident, programme) => line_of(alloc, case, manner, resident, programme),
+        AskedMembers::All => table_of(alloc, case, manner),
+        AskedMembers::Resident(resident) => lines_of(alloc, case, manner, resident),
+        AskedMembers::Pair(resident, programme) => line_of(
+            alloc, case, manner, resident, programme,
+        ),
     }
 }
 
 // The only member of this side whom the name means. If the name means nobody, the fault lists similar names. If the
 // name means more than one member, the fault lists these members' labels.
-fn named(alloc: Global, names: &Names, side: Side, name: &str) -> Result<u32, WhyFault>
+fn member_named(alloc: Global, names: &Names, side: Side, name: &str) -> Result<u32, WhyFault>
     ensures name { IfOk result (MeansAlone (naming_of names.now) side name.now) }
     ensures fault { IfErr result (IsNameFault (naming_of names.now) side name.now) }
 {
@@ -259,27 +274,27 @@ fn named(alloc: Global, names: &Names, side: Side, name: &str) -> Result<u32, Wh
         Meant::One(number) if number < member_count(names.docket, side) as usize => {
             Ok(number as u32)
         }
-        Meant::One(_) | Meant::Nobody => Err(unknown(alloc, names, side, name)?),
-        Meant::Several => Err(several(alloc, names, side, name)?),
+        Meant::One(_) | Meant::Nobody => Err(unknown_name(alloc, names, side, name)?),
+        Meant::Several => Err(shared_name(alloc, names, side, name)?),
     }
 }
 
 // Whom the question is about, by the members' numbers; or the fault of one of its names.
-fn told_of(alloc: Global, names: &Names, asked: Asked) -> Result<Told, WhyFault>
+fn members_asked(alloc: Global, names: &Names, asked: Asked) -> Result<AskedMembers, WhyFault>
     ensures member { IfOk result (IsTold names.now.docket.now.instance) }
     ensures asks { IfOk result (Asks (naming_of names.now) asked.entry) }
     ensures fault { IfErr result (IsAskedFault (naming_of names.now) asked.entry) }
 {
     match asked {
-        Asked::All => Ok(Told::All),
+        Asked::All => Ok(AskedMembers::All),
         Asked::Resident(resident) => {
-            let resident = named(alloc, names, Side::Residents, resident)?;
-            Ok(Told::Resident(ResidentNo(resident)))
+            let resident = member_named(alloc, names, Side::Residents, resident)?;
+            Ok(AskedMembers::Resident(ResidentNo(resident)))
         }
         Asked::Pair(resident, programme) => {
-            let resident = named(alloc, names, Side::Residents, resident)?;
-            let programme = named(alloc, names, Side::Programmes, programme)?;
-            Ok(Told::Pair(ResidentNo(resident), ProgrammeNo(programme)))
+            let resident = member_named(alloc, names, Side::Residents, resident)?;
+            let programme = member_named(alloc, names, Side::Programmes, programme)?;
+            Ok(AskedMembers::Pair(ResidentNo(resident), ProgrammeNo(programme)))
         }
     }
 }
@@ -287,7 +302,7 @@ fn told_of(alloc: Global, names: &Names, asked: Asked) -> Result<Told, WhyFault>
 // The names that the key has for members. Without a key there are none.
 fn key_of(
     alloc: Global,
-    keys: RandomState,
+    hash_keys: RandomState,
     docket: &Docket,
     key_bytes: Option<&[u8]>,
 ) -> Result<Key, WhyFault>
@@ -299,7 +314,7 @@ fn key_of(
         IsSomeAnd (option_copied key_bytes.entry) (λ bytes. IsKeyFault docket.now bytes fault)) }
 {
     match key_bytes {
-        Some(bytes) => Key::read(alloc, keys, docket, bytes),
+        Some(bytes) => Key::read(alloc, hash_keys, docket, bytes),
         None => Ok(Key::none(alloc)),
     }
 }
@@ -307,7 +322,7 @@ fn key_of(
 /// The text of the whole answer.
 pub(crate) fn text_of(
     alloc: Global,
-    keys: RandomState,
+    hash_keys: RandomState,
     case: &Case,
     key_bytes: Option<&[u8]>,
     asked: Asked,
@@ -319,14 +334,14 @@ pub(crate) fn text_of(
         (IsTextFault case.now (option_copied key_bytes.entry) asked.entry) }
 {
     let docket = case.docket();
-    let key = key_of(alloc, keys, docket, key_bytes)?;
+    let key = key_of(alloc, hash_keys, docket, key_bytes)?;
     let names = Names { docket, key: &key };
-    let whom = told_of(alloc, &names, asked)?;
-    let manner = Manner {
+    let whom = members_asked(alloc, &names, asked)?;
+    let manner = AnswerManner {
         names,
         without_ranks,
     };
-    Ok(told_text(alloc, case, &manner, whom)?)
+    Ok(answer_text(alloc, case, &manner, whom)?)
 }
 
 /// Reads a docket with a sheet within the standard limits, and writes the answer to the question. A question about a
@@ -406,9 +421,9 @@ fn read_and_tell<R: Read + Drop, H: RandomSource>(
     ensures fault { IfErr result
         (IsTellFault limits (R.remaining reader) (option_copied key_bytes.entry) asked.entry) }
 {
-    let Ok(keys) = RandomState::new(rt) else {
+    let Ok(hash_keys) = RandomState::new(rt) else {
         return Err(WhyFault::Docket(DocketFault::Read { place: 1 }));
     };
     let case = Case::read_within(rt, alloc, limits, reader, asked == Asked::All)?;
-    text_of(alloc, keys, &case, key_bytes, asked, without_ranks)
+    text_of(alloc, hash_keys, &case, key_bytes, asked, without_ranks)
 }

@@ -17,10 +17,10 @@ pub struct Answers {
 /// How many programmes the answers are about, how many of these programmes ranked the resident, and how many answers
 /// say that the programme or the resident withdrew.
 #[derive(Clone, Copy, Debug)]
-pub(crate) struct Tally {
-    pub(crate) listed: usize,
-    pub(crate) ranked_back: usize,
-    pub(crate) withdrew: usize,
+pub(crate) struct AnswerTally {
+    pub(crate) listed_count: usize,
+    pub(crate) ranked_back_count: usize,
+    pub(crate) withdrawal_count: usize,
 }
 
 // Whether this answer says that the programme ranked the resident.
@@ -44,18 +44,18 @@ fn is_withdrawal(reason: &Why) -> bool
 }
 
 /// Counts the answers of each kind.
-pub(crate) fn count_answers(reasons: &[Why]) -> Tally
-    ensures listed { result.listed ≡ length reasons.now }
-    ensures ranked_back { result.ranked_back ≡ count_by ranked_back reasons.now }
-    ensures withdrew { result.withdrew ≡ count_by withdrew reasons.now }
+pub(crate) fn count_answers(reasons: &[Why]) -> AnswerTally
+    ensures listed { result.listed_count ≡ length reasons.now }
+    ensures ranked_back { result.ranked_back_count ≡ count_by ranked_back reasons.now }
+    ensures withdrew { result.withdrawal_count ≡ count_by withdrew reasons.now }
 {
-    Tally {
-        listed: reasons.len(),
-        ranked_back: reasons
+    AnswerTally {
+        listed_count: reasons.len(),
+        ranked_back_count: reasons
             .iter()
             .filter(|reason| is_ranked_back(reason))
             .count(),
-        withdrew: reasons
+        withdrawal_count: reasons
             .iter()
             .filter(|reason| is_withdrawal(reason))
             .count(),

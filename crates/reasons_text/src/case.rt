@@ -23,12 +23,12 @@ use std::io::Read;
 use std::marker::Model;
 use std::random::RandomSource;
 
-/// A docket with a sheet, and the members' lists as they were written. `takens` says for some first programmes, or
-/// for all, how their places are taken.
+/// A docket with a sheet, and the members' lists as they were written. `taken_places` says for some first programmes,
+/// or for all, how their places are taken.
 pub struct Case {
     docket: Docket,
     lists: WrittenLists,
-    takens: Vec<Taken>,
+    taken_places: Vec<Taken>,
 }
 
 impl Model for Case {
@@ -37,10 +37,11 @@ impl Model for Case {
 
     ghost Value = { CaseParts };
 
-    ghost view = { λ c. case_of c.docket (unwrap_or c.docket.sheet []) c.lists c.takens.items };
+    ghost view = { λ c.
+        case_of c.docket (unwrap_or c.docket.sheet []) c.lists c.taken_places.items };
 
     ghost invariant = { λ c.
-        IsCase (case_of c.docket (unwrap_or c.docket.sheet []) c.lists c.takens.items) };
+        IsCase (case_of c.docket (unwrap_or c.docket.sheet []) c.lists c.taken_places.items) };
 }
 
 // One function drops the whole case: callers prove nothing about its parts.
@@ -49,18 +50,23 @@ impl Drop for Case {
         let Case {
             docket: _,
             lists: _,
-            takens: _,
+            taken_places: _,
         } = self;
     }
 }
 
 // How a programme's places are taken: looked up if this was counted before, else counted now.
-fn taken_of(listed: &Listed, sheet: &Assignment, takens: &[Taken], programme: ProgrammeNo) -> Taken
-    requires { AreTaken listed.now.written sheet.now takens.now }
+fn taken_of(
+    listed: &Listed,
+    sheet: &Assignment,
+    taken_places: &[Taken],
+    programme: ProgrammeNo,
+) -> Taken
+    requires { AreTaken listed.now.written sheet.now taken_places.now }
     ensures { IsTaken
         (list_at listed.now.written.programme_lists programme) sheet.now programme result }
 {
-    match takens.get(programme.0 as usize) {
+    match taken_places.get(programme.0 as usize) {
         Some(taken) => *taken,
         None => places_taken(listed, sheet, programme),
     }
@@ -71,18 +77,18 @@ fn reason_from(
     docket: &Docket,
     sheet: &Assignment,
     lists: &WrittenLists,
-    takens: &[Taken],
+    taken_places: &[Taken],
     resident: ResidentNo,
     programme: ProgrammeNo,
 ) -> Why
-    requires case { IsCase (case_of docket.now sheet.now lists.now takens.now) }
+    requires case { IsCase (case_of docket.now sheet.now lists.now taken_places.now) }
     requires resident { IsResident docket.now.instance resident }
     requires programme { IsProgramme docket.now.instance programme }
     ensures { IsAnswer
-        (case_of docket.now sheet.now lists.now takens.now) resident programme result }
+        (case_of docket.now sheet.now lists.now taken_places.now) resident programme result }
 {
     let listed = Listed::new(docket.instance(), lists);
-    let taken = taken_of(&listed, sheet, takens, programme);
+    let taken = taken_of(&listed, sheet, taken_places, programme);
     why(&listed, sheet, &taken, resident, programme)
 }
 
@@ -91,14 +97,14 @@ fn filled_from(
     docket: &Docket,
     sheet: &Assignment,
     lists: &WrittenLists,
-    takens: &[Taken],
+    taken_places: &[Taken],
     programme: ProgrammeNo,
 ) -> u32
-    requires { IsCase (case_of docket.now sheet.now lists.now takens.now) }
+    requires { IsCase (case_of docket.now sheet.now lists.now taken_places.now) }
     ensures { result ≡ member_count sheet.now programme }
 {
     let listed = Listed::new(docket.instance(), lists);
-    taken_of(&listed, sheet, takens, programme).members
+    taken_of(&listed, sheet, taken_places, programme).members
 }
 
 // The answers for a resident about each programme on the resident's list.
@@ -107,13 +113,13 @@ fn answers_from(
     docket: &Docket,
     sheet: &Assignment,
     lists: &WrittenLists,
-    takens: &[Taken],
+    taken_places: &[Taken],
     resident: ResidentNo,
 ) -> Result<Answers, AllocError>
-    requires case { IsCase (case_of docket.now sheet.now lists.now takens.now) }
+    requires case { IsCase (case_of docket.now sheet.now lists.now taken_places.now) }
     requires resident { IsResident docket.now.instance resident }
     ensures first { IfOk result (λ answers. AreAnswers (case_of docket.now sheet.now
-        lists.now takens.now) resident answers.programmes.items answers.reasons.items) }
+        lists.now taken_places.now) resident answers.programmes.items answers.reasons.items) }
     ensures record { IfOk result (λ answers.
         AreOfRecord docket.now lists.now resident answers.programmes.items) }
 {
@@ -127,7 +133,7 @@ fn answers_from(
             unreachable!("the list is so long");
         };
         programmes.push(programme)?;
-        reasons.push(reason_from(docket, sheet, lists, takens, resident, programme))?;
+        reasons.push(reason_from(docket, sheet, lists, taken_places, resident, programme))?;
     }
     Ok(Answers {
         programmes,
@@ -158,7 +164,7 @@ impl Case {
         alloc: Global,
         limits: Limits,
         reader: R,
-        are_all_told: bool,
+        are_all_residents_asked: bool,
     ) -> Result<Case, WhyFault>
         ensures read { IfOk result (λ case.
             IsReadWithin limits (R.remaining reader) case.docket case.written) }
@@ -166,7 +172,7 @@ impl Case {
         ensures fault { IfErr result (IsCaseFaultWithin limits (R.remaining reader)) }
     {
         match read_docket_with_lists_within(rt, alloc, limits, reader) {
-            Ok((docket, lists)) => Case::of_docket(alloc, docket, lists, are_all_told),
+            Ok((docket, lists)) => Case::of_docket(alloc, docket, lists, are_all_residents_asked),
             Err(fault) => Err(WhyFault::Reading(fault)),
         }
     }
@@ -180,7 +186,7 @@ impl Case {
         limits: Limits,
         docket: &[u8],
         sheet: &[u8],
-        are_all_told: bool,
+        are_all_residents_asked: bool,
     ) -> Result<Case, WhyFault>
         ensures read { IfOk result (λ case. IsInFilesWithLists
             limits docket.now sheet.now [] case.docket case.written) }
@@ -188,7 +194,12 @@ impl Case {
         ensures fault { IfErr result (IsFilesCaseFault limits docket.now sheet.now) }
     {
         match read_parts_with_lists(rt, alloc, limits, docket, sheet, &[]) {
-            Ok((docket, lists, _)) => match Case::of_docket(alloc, docket, lists, are_all_told) {
+            Ok((docket, lists, _)) => match Case::of_docket(
+                alloc,
+                docket,
+                lists,
+                are_all_residents_asked,
+            ) {
                 Ok(case) => Ok(case),
                 Err(WhyFault::NoSheet) => Err(WhyFault::EmptySheet),
                 Err(_) => Err(WhyFault::Docket(DocketFault::Memory)),
@@ -202,7 +213,7 @@ impl Case {
         alloc: Global,
         docket: Docket,
         lists: WrittenLists,
-        are_all_told: bool,
+        are_all_residents_asked: bool,
     ) -> Result<Case, WhyFault>
         requires { WasRead docket lists }
         ensures parts { IfOk result (λ case. (case.docket ≡ docket) × (case.written ≡ lists)) }
@@ -212,17 +223,17 @@ impl Case {
         let Some(sheet) = docket.sheet() else {
             return Err(WhyFault::NoSheet);
         };
-        let programmes = if are_all_told {
+        let programmes = if are_all_residents_asked {
             docket.instance().programmes()
         } else {
             0
         };
         let listed = Listed::new(docket.instance(), &lists);
-        let takens = all_places_taken(alloc, &listed, sheet, programmes)?;
+        let taken_places = all_places_taken(alloc, &listed, sheet, programmes)?;
         Ok(Case {
             docket,
             lists,
-            takens,
+            taken_places,
         })
     }
 
@@ -264,8 +275,8 @@ impl Case {
     pub fn filled(&self, programme: ProgrammeNo) -> u32
         ensures { result ≡ member_count self.now.sheet programme }
     {
-        let takens = self.takens.as_slice();
-        filled_from(&self.docket, self.sheet(), &self.lists, takens, programme)
+        let places = self.taken_places.as_slice();
+        filled_from(&self.docket, self.sheet(), &self.lists, places, programme)
     }
 
     /// The answer for a resident about one programme: the first of the possible answers that is true.
@@ -274,12 +285,12 @@ impl Case {
         requires programme { IsProgramme self.now.docket.instance programme }
         ensures { IsAnswer self.now resident programme result }
     {
-        let takens = self.takens.as_slice();
+        let taken_places = self.taken_places.as_slice();
         reason_from(
             &self.docket,
             self.sheet(),
             &self.lists,
-            takens,
+            taken_places,
             resident,
             programme,
         )
@@ -296,13 +307,13 @@ impl Case {
         ensures record { IfOk result (λ answers.
             AreOfRecord self.now.docket self.now.written resident answers.programmes.items) }
     {
-        let takens = self.takens.as_slice();
+        let taken_places = self.taken_places.as_slice();
         answers_from(
             alloc,
             &self.docket,
             self.sheet(),
             &self.lists,
-            takens,
+            taken_places,
             resident,
         )
     }

@@ -54,7 +54,7 @@ impl Marks {
 
     // The mark with the highest count. If the counts are equal, a comma comes before a tab, and a tab before a
     // semicolon.
-    fn chosen(&self) -> u8
+    fn chosen_mark(&self) -> u8
         ensures { result ≡ spec.chosen self.now }
     {
         if self.semicolons > self.commas && self.semicolons > self.tabs {
@@ -86,5 +86,5 @@ fn marks_of(bytes: &[u8]) -> Marks
 pub(crate) fn delimiter_of(bytes: &[u8]) -> u8
     ensures { result ≡ spec.delimiter_of bytes.now }
 {
-    marks_of(bytes).chosen()
+    marks_of(bytes).chosen_mark()
 }

@@ -30,14 +30,14 @@ fn read_files_and_tell<H: RandomSource>(
     ensures fault { IfErr result (IsFilesTellFault limits docket.now sheet.now
         (option_copied key_bytes.entry) asked.entry) }
 {
-    let Ok(keys) = RandomState::new(rt) else {
+    let Ok(hash_keys) = RandomState::new(rt) else {
         return Err(WhyFault::Records {
             file: Part::Docket,
             fault: RecordsFault::Docket(DocketFault::Read { place: 1 }),
         });
     };
     let case = Case::read_files(rt, alloc, limits, docket, sheet, asked == Asked::All)?;
-    text_of(alloc, keys, &case, key_bytes, asked, without_ranks)
+    text_of(alloc, hash_keys, &case, key_bytes, asked, without_ranks)
 }
 
 /// Reads a docket and a sheet, each from its own file, within the standard limits. Writes the answer as `serve_why`

@@ -41,15 +41,15 @@ pub(crate) struct Key {
     pub(crate) programmes: SideKey,
 }
 
-// A vector of `count` empty texts.
-fn empty_texts(alloc: Global, count: u32) -> Result<Vec<String>, AllocError>
-    ensures { IfOk result (λ texts. map string_bytes texts.items ≡ replicate count []) }
+// A vector of `text_count` empty texts.
+fn empty_texts(alloc: Global, text_count: u32) -> Result<Vec<String>, AllocError>
+    ensures { IfOk result (λ texts. map string_bytes texts.items ≡ replicate text_count []) }
 {
-    let mut names = Vec::new(alloc);
-    for _n in 0..count {
-        names.push(String::new(alloc))?;
+    let mut texts = Vec::new(alloc);
+    for _n in 0..text_count {
+        texts.push(String::new(alloc))?;
     }
-    Ok(names)
+    Ok(texts)
 }
 
 /// The text at index `place`, or none if this text is empty or missing.
@@ -86,7 +86,7 @@ fn row_text(alloc: Global, text: &[u8]) -> Result<Option<String>, AllocError>
 }
 
 // The sign of the member in a row: the ID, or the docket's name if there is no ID.
-fn sign(row: &ByteRecord) -> &[u8]
+fn sign_of_row(row: &ByteRecord) -> &[u8]
     ensures { result.now ≡ sign_in (fields_of row.now) }
 {
     let id = field(row, 3);
@@ -105,22 +105,22 @@ pub(crate) fn side_of_row(row: &ByteRecord) -> Option<Side>
     }
 }
 
-// Whether `blank` is true and this text is empty.
-fn both_blank(blank: bool, text: &[u8]) -> bool
-    ensures { result ≡ (blank && length text.now == 0) }
+// Whether `were_blank` is true and this text is empty.
+fn still_blank(were_blank: bool, text: &[u8]) -> bool
+    ensures { result ≡ (were_blank && length text.now == 0) }
 {
-    blank && text.is_empty()
+    were_blank && text.is_empty()
 }
 
 // Whether all fields of a row are empty.
 fn is_blank(row: &ByteRecord) -> bool
     ensures { result ≡ is_blank_row (fields_of row.now) }
 {
-    let mut blank = true;
+    let mut are_all_blank = true;
     for i in 0..row.len() {
-        blank = both_blank(blank, field(row, i));
+        are_all_blank = still_blank(are_all_blank, field(row, i));
     }
-    blank
+    are_all_blank
 }
 
 // Puts a text at index `place`, if there is such an index.
@@ -145,13 +145,13 @@ impl SideKey {
         }
     }
 
-    // A side with `count` members, all without names.
-    fn empty(alloc: Global, count: u32) -> Result<SideKey, AllocError>
-        ensures { IfOk result (λ key. side_of key ≡ unnamed_side count) }
+    // A side with `side_size` members, all without names.
+    fn empty(alloc: Global, side_size: u32) -> Result<SideKey, AllocError>
+        ensures { IfOk result (λ key. side_of key ≡ unnamed_side side_size) }
     {
         Ok(SideKey {
-            names: empty_texts(alloc, count)?,
-            signs: empty_texts(alloc, count)?,
+            names: empty_texts(alloc, side_size)?,
+            signs: empty_texts(alloc, side_size)?,
             labels: Vec::new(alloc),
         })
     }
@@ -173,7 +173,7 @@ impl SideKey {
     }
 
     // Whether no earlier row gave this member a name.
-    fn is_free(&self, number: Option<u32>) -> bool
+    fn lacks_name(&self, number: Option<u32>) -> bool
         ensures { result ≡ is_free (side_of self.now) number }
     {
         match number {
@@ -204,13 +204,13 @@ impl SideKey {
             return Err(WhyFault::BadKey { place });
         }
         let number = numbers.number(side, field(row, 1));
-        if !self.is_free(number) {
+        if !self.lacks_name(number) {
             return Err(WhyFault::DoubledKey { place });
         }
         let Some(name) = row_text(alloc, field(row, 2))? else {
             return Err(WhyFault::BadKey { place });
         };
-        let Some(sign) = row_text(alloc, sign(row))? else {
+        let Some(sign) = row_text(alloc, sign_of_row(row))? else {
             return Err(WhyFault::BadKey { place });
         };
         self.note(number, name, sign)?;
@@ -257,20 +257,20 @@ impl Key {
     #[inline(never)]
     pub(crate) fn read(
         alloc: Global,
-        keys: RandomState,
+        hash_keys: RandomState,
         docket: &Docket,
         bytes: &[u8],
     ) -> Result<Key, WhyFault>
         ensures key { IfOk result (λ key. IsKeyOf docket.now bytes.now (both_of key)) }
         ensures fault { IfErr result (IsKeyFault docket.now bytes.now) }
     {
-        let numbers = MemberNumbers::of(alloc, keys, docket)?;
+        let numbers = MemberNumbers::of(alloc, hash_keys, docket)?;
         let mut key = Key::unnamed(alloc, docket)?;
         key.add_all(alloc, &numbers, bytes)?;
-        let residents = labels(alloc, keys, docket, Side::Residents, &key.residents)?;
-        let programmes = labels(alloc, keys, docket, Side::Programmes, &key.programmes)?;
-        key.residents.labels = residents;
-        key.programmes.labels = programmes;
+        let resident_labels = labels(alloc, hash_keys, docket, Side::Residents, &key.residents)?;
+        let programme_labels = labels(alloc, hash_keys, docket, Side::Programmes, &key.programmes)?;
+        key.residents.labels = resident_labels;
+        key.programmes.labels = programme_labels;
         Ok(key)
     }
 
@@ -289,11 +289,11 @@ impl Key {
     {
         let mut reader = reader_over(alloc, delimiter_of(bytes), bytes)?;
         let mut row = ByteRecord::new(alloc);
-        for before in 0..u64::MAX {
+        for rows_before in 0..u64::MAX {
             if !next_row(&mut reader, &mut row)? {
                 return Ok(());
             }
-            self.add(alloc, numbers, &row, before + 1)?;
+            self.add(alloc, numbers, &row, rows_before + 1)?;
         }
         Err(WhyFault::Docket(DocketFault::Memory))
     }

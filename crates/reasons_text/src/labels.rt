@@ -23,7 +23,7 @@ fn owner_with(owner: Meant, number: usize) -> Meant
 {
     match owner {
         Meant::Nobody => Meant::One(number),
-        Meant::One(first) if first == number => Meant::One(first),
+        Meant::One(member) if member == number => Meant::One(member),
         Meant::One(_) | Meant::Several => Meant::Several,
     }
 }
@@ -42,13 +42,13 @@ fn owner(owners: &Owners, text: &str) -> Meant
 fn note<'a>(owners: &mut Owners<'a>, text: &'a str, number: usize) -> Result<(), AllocError>
     ensures { OnOk result (Notes owners.old owners.new (bytes_eq text.entry.now) number) }
 {
-    let known = owner(owners, text);
-    owners.insert(text, owner_with(known, number))?;
+    let known_owner = owner(owners, text);
+    owners.insert(text, owner_with(known_owner, number))?;
     Ok(())
 }
 
 // Notes the docket's name of the member with this number, if the docket has such a member.
-fn note_own<'a>(
+fn note_docket_name<'a>(
     owners: &mut Owners<'a>,
     docket: &'a Docket,
     side: Side,
@@ -93,7 +93,7 @@ fn note_row<'a>(
 }
 
 // Notes each text that means a member, for all members.
-fn note_all<'a>(
+fn note_member_texts<'a>(
     owners: &mut Owners<'a>,
     docket: &'a Docket,
     side: Side,
@@ -105,12 +105,12 @@ fn note_all<'a>(
     ensures { OnOk result (Notes owners.old owners.new
         (λ text. is_meant docket.entry.now side (side_of key.entry.now) text number) number) }
 {
-    note_own(owners, docket, side, number)?;
+    note_docket_name(owners, docket, side, number)?;
     note_row(owners, key, label, number)
 }
 
 // The number of members on a side that may have names: those of the docket, and those whom only the key has.
-fn named(docket: &Docket, side: Side, names: &[String]) -> usize
+fn named_count(docket: &Docket, side: Side, names: &[String]) -> usize
     ensures members { members_of docket.now side ≤ result }
     ensures rows { length names.now ≤ result }
 {
@@ -140,7 +140,7 @@ fn full_labels(
         AreFull docket.now side (side_of key.now) (map string_bytes labels.items)) }
 {
     let mut labels = Vec::new(alloc);
-    for number in 0..named(docket, side, key.names.as_slice()) {
+    for number in 0..named_count(docket, side, key.names.as_slice()) {
         let label = full_label(alloc, key, number)?;
         labels.push(label)?;
     }
@@ -150,7 +150,7 @@ fn full_labels(
 // The map that says for each text whom of a side it means.
 fn owners<'a>(
     alloc: Global,
-    keys: RandomState,
+    hash_keys: RandomState,
     docket: &'a Docket,
     side: Side,
     key: &'a SideKey,
@@ -159,9 +159,9 @@ fn owners<'a>(
     requires { AreFull docket.now side (side_of key.now) (map string_bytes labels.now) }
     ensures { IfOk result (AreOwners docket.entry.now side (side_of key.entry.now)) }
 {
-    let mut owners = HashMap::with_hasher(alloc, keys);
+    let mut owners = HashMap::with_hasher(alloc, hash_keys);
     for number in 0..labels.len() {
-        note_all(
+        note_member_texts(
             &mut owners,
             docket,
             side,
@@ -174,7 +174,7 @@ fn owners<'a>(
 }
 
 // The label of a member if its name also means another member, else an empty text.
-fn label_if(
+fn label_if_shared(
     alloc: Global,
     owners: &Owners,
     key: &SideKey,
@@ -196,7 +196,7 @@ fn label_if(
 /// The labels of the members of a side. A label is empty if the member's name means no other member.
 pub(crate) fn labels(
     alloc: Global,
-    keys: RandomState,
+    hash_keys: RandomState,
     docket: &Docket,
     side: Side,
     key: &SideKey,
@@ -204,11 +204,18 @@ pub(crate) fn labels(
     ensures { IfOk result (λ labels.
         AreLabels docket.now side (side_of key.now) (map string_bytes labels.items)) }
 {
-    let full = full_labels(alloc, docket, side, key)?;
-    let owners = owners(alloc, keys, docket, side, key, full.as_slice())?;
+    let possible_labels = full_labels(alloc, docket, side, key)?;
+    let owners = owners(
+        alloc,
+        hash_keys,
+        docket,
+        side,
+        key,
+        possible_labels.as_slice(),
+    )?;
     let mut labels = Vec::new(alloc);
     for number in 0..member_count(docket, side) {
-        let label = label_if(alloc, &owners, key, number)?;
+        let label = label_if_shared(alloc, &owners, key, number)?;
         labels.push(label)?;
     }
     Ok(labels)

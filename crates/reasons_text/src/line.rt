@@ -154,11 +154,15 @@ fn asked<'a>(matches: &ArgMatches<'a>) -> Option<Asked<'a>>
         (first_of (codes "programme") (rows_of (found_of matches.now))) asked) }
     ensures none { result ≡ None → AsksNone (rows_of (found_of matches.now)) }
 {
-    let is_all = matches.get_flag("all");
+    let is_about_all_residents = matches.get_flag("all");
     let Some(resident) = matches.get_str("resident") else {
-        return if is_all { Some(Asked::All) } else { None };
+        return if is_about_all_residents {
+            Some(Asked::All)
+        } else {
+            None
+        };
     };
-    if is_all {
+    if is_about_all_residents {
         return None;
     }
     match matches.get_str("programme") {
@@ -168,11 +172,11 @@ fn asked<'a>(matches: &ArgMatches<'a>) -> Option<Asked<'a>>
 }
 
 // The message for words that ask about nobody, or both about a resident and about all.
-fn nobody_asked(command: &mut Command, is_all: bool) -> LineFault
+fn nobody_asked(command: &mut Command, is_about_all_residents: bool) -> LineFault
     ensures { IsErrorOf (λ kind. (kind ≡ ErrorKind.ArgumentConflict)
         ⊎ (kind ≡ ErrorKind.MissingRequiredArgument)) result }
 {
-    let error = if is_all {
+    let error = if is_about_all_residents {
         command.error(
             ErrorKind::ArgumentConflict,
             "the argument '--all' cannot be used with '[RESIDENT]'",

@@ -30,7 +30,7 @@ pub(crate) struct Names<'a> {
 }
 
 // Whom a text means if it means this member in addition to `meant`.
-fn also(meant: Meant, number: usize) -> Meant
+fn with_member(meant: Meant, number: usize) -> Meant
     ensures { result ≡ also_of meant number }
 {
     match meant {
@@ -41,7 +41,7 @@ fn also(meant: Meant, number: usize) -> Meant
 
 impl Names<'_> {
     // The names that the key has for this side.
-    fn side(&self, side: Side) -> &SideKey
+    fn side_key(&self, side: Side) -> &SideKey
         ensures { side_of result.now ≡ names_in (naming_of self.now) side }
     {
         match side {
@@ -51,20 +51,20 @@ impl Names<'_> {
     }
 
     // The number of members on a side that may have names: those of the docket, and those whom only the key has.
-    pub(crate) fn named(&self, side: Side) -> usize
+    pub(crate) fn named_count(&self, side: Side) -> usize
         ensures members { member_count_in self.now.docket.now side ≤ result }
         ensures rows { length (names_in (naming_of self.now) side).names ≤ result }
     {
         let members = member_count(self.docket, side) as usize;
-        members.max(self.side(side).names.len())
+        members.max(self.side_key(side).names.len())
     }
 
     /// The name that is shown for a member, or an empty name for a number without a member.
     #[tactic(auto, unfolding(crate::specs::Naming::shown))]
-    pub(crate) fn shown(&self, side: Side, number: u32) -> &str
+    pub(crate) fn shown_name(&self, side: Side, number: u32) -> &str
         ensures { result.now ≡ shown (naming_of self.now) side number }
     {
-        let key = self.side(side);
+        let key = self.side_key(side);
         let place = number as usize;
         if let Some(label) = text_in(key.labels.as_slice(), place) {
             return label;
@@ -76,8 +76,8 @@ impl Names<'_> {
     }
 
     /// The key's real name of a member, or the docket's name if the key has none.
-    pub(crate) fn real(&self, side: Side, number: u32) -> &str {
-        match text_in(self.side(side).names.as_slice(), number as usize) {
+    pub(crate) fn real_name(&self, side: Side, number: u32) -> &str {
+        match text_in(self.side_key(side).names.as_slice(), number as usize) {
             Some(name) => name,
             None => docket_name(self.docket, side, number),
         }
@@ -87,14 +87,14 @@ impl Names<'_> {
     pub(crate) fn resident(&self, resident: ResidentNo) -> &str
         ensures { result.now ≡ shown_resident (naming_of self.now) resident }
     {
-        self.shown(Side::Residents, resident.0)
+        self.shown_name(Side::Residents, resident.0)
     }
 
     /// The name that is shown for a programme.
     pub(crate) fn programme(&self, programme: ProgrammeNo) -> &str
         ensures { result.now ≡ shown_programme (naming_of self.now) programme }
     {
-        self.shown(Side::Programmes, programme.0)
+        self.shown_name(Side::Programmes, programme.0)
     }
 
     /// Whether a resident withdrew.
@@ -113,7 +113,7 @@ impl Names<'_> {
         side: Side,
         number: usize,
     ) -> Result<String, AllocError> {
-        let key = self.side(side);
+        let key = self.side_key(side);
         let Some(name) = text_in(key.names.as_slice(), number) else {
             return match u32::try_from(number) {
                 Ok(number) => String::from_str(alloc, docket_name(self.docket, side, number)),
@@ -133,13 +133,13 @@ impl Names<'_> {
         text: &str,
         number: usize,
     ) -> Result<bool, AllocError>
-        ensures { IfOk result (λ is. is ≡ means (naming_of self.now) side text.now number) }
+        ensures { IfOk result (λ answer. answer ≡ means (naming_of self.now) side text.now number) }
     {
         let members = member_count(self.docket, side) as usize;
         if number < members && docket_name(self.docket, side, number as u32) == text {
             return Ok(true);
         }
-        let key = self.side(side);
+        let key = self.side_key(side);
         let Some(name) = text_in(key.names.as_slice(), number) else {
             return Ok(false);
         };
@@ -156,9 +156,9 @@ impl Names<'_> {
         ensures { IfOk result (IsMeant (naming_of self.now) side text.now) }
     {
         let mut meant = Meant::Nobody;
-        for number in 0..self.named(side) {
+        for number in 0..self.named_count(side) {
             if self.means(alloc, side, text, number)? {
-                meant = also(meant, number);
+                meant = with_member(meant, number);
             }
         }
         Ok(meant)

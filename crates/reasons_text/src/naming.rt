@@ -46,13 +46,13 @@ fn put_first<'a>(numbers: &mut Numbers<'a>, name: &'a [u8], number: u32) -> Resu
 // For each name on one side of a docket, the number of the first member with this name.
 fn numbers_of<'a>(
     alloc: Global,
-    keys: RandomState,
+    hash_keys: RandomState,
     docket: &'a Docket,
     side: Side,
 ) -> Result<Numbers<'a>, AllocError>
     ensures { IfOk result (AreNumbersOf docket.entry.now side) }
 {
-    let mut numbers = HashMap::with_hasher(alloc, keys);
+    let mut numbers = HashMap::with_hasher(alloc, hash_keys);
     for number in 0..member_count(docket, side) {
         let name = docket_name(docket, side, number).as_bytes();
         put_first(&mut numbers, name, number)?;
@@ -64,7 +64,7 @@ impl<'a> MemberNumbers<'a> {
     /// For each name on both sides of a docket, the number of the first member with this name.
     pub(crate) fn of(
         alloc: Global,
-        keys: RandomState,
+        hash_keys: RandomState,
         docket: &'a Docket,
     ) -> Result<MemberNumbers<'a>, AllocError>
         ensures numbers { IfOk result AreNumbers }
@@ -72,8 +72,8 @@ impl<'a> MemberNumbers<'a> {
     {
         Ok(MemberNumbers {
             docket,
-            residents: numbers_of(alloc, keys, docket, Side::Residents)?,
-            programmes: numbers_of(alloc, keys, docket, Side::Programmes)?,
+            residents: numbers_of(alloc, hash_keys, docket, Side::Residents)?,
+            programmes: numbers_of(alloc, hash_keys, docket, Side::Programmes)?,
         })
     }
 

@@ -10,32 +10,38 @@ use std::alloc::{AllocError, Global};
 use strsim::levenshtein;
 
 // The greatest number of similar names in a message.
-const MOST_NEAR: usize = 3;
+const MOST_SIMILAR_NAMES: usize = 3;
 
 // The greatest number of members that a message lists, if a name means several members.
-const MOST_MEANT: usize = 10;
+const MOST_MEMBERS_LISTED: usize = 10;
 
 // The greatest length in bytes of a name for which similar names are searched.
-const MOST_ASKED: usize = 64;
+const LONGEST_ASKED_NAME: usize = 64;
 
 // How many edits may separate a similar name from the name asked for: a third of the letters of the name asked for,
 // but at least two, and fewer than all its letters.
-fn reach(letters: usize) -> usize {
-    (letters / 3).max(2).min(letters.saturating_sub(1))
+fn most_edits(letter_count: usize) -> usize {
+    (letter_count / 3)
+        .max(2)
+        .min(letter_count.saturating_sub(1))
 }
 
 // How many edits separate a name from the name asked for, or none if the names are not similar.
-fn edits(alloc: Global, asked: &str, name: &str) -> Result<Option<usize>, AllocError> {
-    if asked.len() > MOST_ASKED {
+fn edits(alloc: Global, asked_name: &str, name: &str) -> Result<Option<usize>, AllocError> {
+    if asked_name.len() > LONGEST_ASKED_NAME {
         return Ok(None);
     }
-    let letters = asked.chars().count();
-    let reach = reach(letters);
-    if name.chars().count().abs_diff(letters) > reach {
+    let letter_count = asked_name.chars().count();
+    let most_edits = most_edits(letter_count);
+    if name.chars().count().abs_diff(letter_count) > most_edits {
         return Ok(None);
     }
-    let edits = levenshtein(alloc, asked, name)?;
-    Ok(if edits <= reach { Some(edits) } else { None })
+    let edits = levenshtein(alloc, asked_name, name)?;
+    Ok(if edits <= most_edits {
+        Some(edits)
+    } else {
+        None
+    })
 }
 
 // How many edits separate a member's real name or shown name from the name asked for, whichever is nearer. None
@@ -44,25 +50,25 @@ fn edits_of(
     alloc: Global,
     names: &Names,
     side: Side,
-    asked: &str,
+    asked_name: &str,
     number: u32,
 ) -> Result<Option<usize>, AllocError> {
-    let shown = names.shown(side, number);
-    let real = names.real(side, number);
-    let by_shown = edits(alloc, asked, shown)?;
-    if real == shown {
-        return Ok(by_shown);
+    let shown_name = names.shown_name(side, number);
+    let real_name = names.real_name(side, number);
+    let shown_edits = edits(alloc, asked_name, shown_name)?;
+    if real_name == shown_name {
+        return Ok(shown_edits);
     }
-    let by_real = edits(alloc, asked, real)?;
-    Ok(match (by_shown, by_real) {
-        (Some(one), Some(other)) => Some(one.min(other)),
-        (one, None) => one,
-        (None, other) => other,
+    let real_edits = edits(alloc, asked_name, real_name)?;
+    Ok(match (shown_edits, real_edits) {
+        (Some(shown_edits), Some(real_edits)) => Some(shown_edits.min(real_edits)),
+        (shown_edits, None) => shown_edits,
+        (None, real_edits) => real_edits,
     })
 }
 
 // Adds a similar name to the question `did you mean ..?`.
-fn push_meant(text: &mut String, name: &str) -> Result<(), AllocError> {
+fn push_similar_name(text: &mut String, name: &str) -> Result<(), AllocError> {
     if text.is_empty() {
         text.push_str("; did you mean ")?;
     } else {
@@ -72,7 +78,7 @@ fn push_meant(text: &mut String, name: &str) -> Result<(), AllocError> {
 }
 
 // Ends the question `did you mean ..?`, if the text has begun it.
-fn end_meant(text: &mut String) -> Result<(), AllocError> {
+fn end_similar_names(text: &mut String) -> Result<(), AllocError> {
     if text.is_empty() {
         return Ok(());
     }
@@ -80,88 +86,102 @@ fn end_meant(text: &mut String) -> Result<(), AllocError> {
 }
 
 // The name asked for, in the form in which it is shown.
-fn shown(alloc: Global, asked: &str) -> Result<String, AllocError> {
+fn shown_text(alloc: Global, asked_name: &str) -> Result<String, AllocError> {
     let mut text = String::new(alloc);
-    push_shown(&mut text, asked)?;
+    push_shown(&mut text, asked_name)?;
     Ok(text)
 }
 
 // The question that lists similar names, or an empty text if no name is similar.
-fn near_names(alloc: Global, names: &Names, side: Side, asked: &str) -> Result<String, AllocError> {
-    let mut near = Vec::new(alloc);
-    for number in 0..member_count(names.docket, side) {
-        if let Some(edits) = edits_of(alloc, names, side, asked, number)? {
-            near.push((edits, number))?;
-        }
-    }
-    near.sort_by_key(|(edits, _)| *edits)?;
-    let mut meant = String::new(alloc);
-    for (_, number) in near.iter().take(MOST_NEAR) {
-        push_meant(&mut meant, names.shown(side, *number))?;
-    }
-    end_meant(&mut meant)?;
-    Ok(meant)
-}
-
-/// The fault that no member of this side has this name, with up to three similar names.
-pub(crate) fn unknown(
+fn similar_names_question(
     alloc: Global,
     names: &Names,
     side: Side,
-    asked: &str,
+    asked_name: &str,
+) -> Result<String, AllocError> {
+    let mut similar_members = Vec::new(alloc);
+    for number in 0..member_count(names.docket, side) {
+        if let Some(edits) = edits_of(alloc, names, side, asked_name, number)? {
+            similar_members.push((edits, number))?;
+        }
+    }
+    similar_members.sort_by_key(|(edits, _)| *edits)?;
+    let mut similar_names = String::new(alloc);
+    for (_, number) in similar_members.iter().take(MOST_SIMILAR_NAMES) {
+        push_similar_name(&mut similar_names, names.shown_name(side, *number))?;
+    }
+    end_similar_names(&mut similar_names)?;
+    Ok(similar_names)
+}
+
+/// The fault that no member of this side has this name, with up to three similar names.
+pub(crate) fn unknown_name(
+    alloc: Global,
+    names: &Names,
+    side: Side,
+    asked_name: &str,
 ) -> Result<WhyFault, AllocError>
     ensures { IfOk result (IsUnknownName side) }
 {
-    let meant = near_names(alloc, names, side, asked)?;
-    let asked = shown(alloc, asked)?;
+    let similar_names = similar_names_question(alloc, names, side, asked_name)?;
+    let asked_name = shown_text(alloc, asked_name)?;
     Ok(match side {
         Side::Programmes => {
-            WhyFault::NoProgramme(format!(in alloc; "no programme is named {asked}{meant}")?)
+            WhyFault::NoProgramme(format!(in alloc;
+                "no programme is named {asked_name}{similar_names}"
+            )?)
         }
         Side::Residents => {
-            WhyFault::NoResident(format!(in alloc; "no resident is named {asked}{meant}")?)
+            WhyFault::NoResident(format!(in alloc;
+                "no resident is named {asked_name}{similar_names}"
+            )?)
         }
     })
 }
 
 // The labels of up to ten members whom a name means, and how many more it means.
-fn labels_of(alloc: Global, names: &Names, side: Side, asked: &str) -> Result<String, AllocError> {
+fn labels_of(
+    alloc: Global,
+    names: &Names,
+    side: Side,
+    asked_name: &str,
+) -> Result<String, AllocError> {
     let mut text = String::new(alloc);
-    let mut meant = 0usize;
-    for number in 0..names.named(side) {
-        if !names.means(alloc, side, asked, number)? {
+    let mut meant_count = 0usize;
+    for number in 0..names.named_count(side) {
+        if !names.means(alloc, side, asked_name, number)? {
             continue;
         }
-        if meant < MOST_MEANT {
-            text.push_str(if meant == 0 { "" } else { ", " })?;
+        if meant_count < MOST_MEMBERS_LISTED {
+            text.push_str(if meant_count == 0 { "" } else { ", " })?;
             text.push_str(names.label(alloc, side, number)?.as_str())?;
         }
-        meant = meant.saturating_add(1);
+        meant_count = meant_count.saturating_add(1);
     }
-    if meant > MOST_MEANT {
-        let more = meant - MOST_MEANT;
-        text.push_str(format!(in alloc; " and {more} more")?.as_str())?;
+    if meant_count > MOST_MEMBERS_LISTED {
+        let more_members = meant_count - MOST_MEMBERS_LISTED;
+        text.push_str(format!(in alloc; " and {more_members} more")?.as_str())?;
     }
     Ok(text)
 }
 
 /// The fault that more than one member of this side has this name, with the labels of up to ten of them.
-pub(crate) fn several(
+pub(crate) fn shared_name(
     alloc: Global,
     names: &Names,
     side: Side,
-    asked: &str,
+    asked_name: &str,
 ) -> Result<WhyFault, AllocError>
     ensures { IfOk result (IsSharedName side) }
 {
-    let labels = labels_of(alloc, names, side, asked)?;
-    let asked = shown(alloc, asked)?;
+    let labels = labels_of(alloc, names, side, asked_name)?;
+    let asked_name = shown_text(alloc, asked_name)?;
     Ok(match side {
         Side::Programmes => WhyFault::ManyProgrammes(format!(in alloc;
-            "more than one programme is named {asked}: {labels}"
+            "more than one programme is named {asked_name}: {labels}"
         )?),
         Side::Residents => WhyFault::ManyResidents(format!(in alloc;
-            "more than one resident is named {asked}: {labels}"
+            "more than one resident is named {asked_name}: {labels}"
         )?),
     })
 }

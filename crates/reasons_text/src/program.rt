@@ -26,17 +26,17 @@ use std::rt::Files;
 
 // Writes why a question wasn't answered. The text names these limits. No exit status depends on whether this text could
 // be written.
-fn tell<T: Eprint>(console: &T, limits: Limits, question: &Question, fault: &WhyFault) {
-    let text = fault.within(limits);
+fn print_fault<T: Eprint>(console: &T, limits: Limits, question: &Question, fault: &WhyFault) {
+    let fault_text = fault.within(limits);
     let _ = match (fault.file(), question.sheet) {
-        (Some(Part::Sheet), Some(path)) => eprintln!(console; "residency: {path}: {text}"),
-        (Some(_), _) => eprintln!(console; "residency: standard input: {text}"),
-        (None, _) => eprintln!(console; "residency: {text}"),
+        (Some(Part::Sheet), Some(path)) => eprintln!(console; "residency: {path}: {fault_text}"),
+        (Some(_), _) => eprintln!(console; "residency: standard input: {fault_text}"),
+        (None, _) => eprintln!(console; "residency: {fault_text}"),
     };
 }
 
 // Returns the exit status after a question. If the question wasn't answered, writes why.
-fn ended<T: Eprint>(
+fn exit_code_of<T: Eprint>(
     console: &T,
     limits: Limits,
     question: &Question,
@@ -45,13 +45,13 @@ fn ended<T: Eprint>(
     ensures { exit_status_in result ≡ exit_status_of answer.now }
 {
     if let Err(fault) = answer {
-        tell(console, limits, question, fault);
+        print_fault(console, limits, question, fault);
     }
     ExitCode::from(exit_status(answer))
 }
 
 // Answers a question over a docket from the reader and a sheet from its own file, within these limits.
-fn serve_beside<R, W, T, H>(
+fn serve_with_sheet_file<R, W, T, H>(
     rt: &H,
     alloc: Global,
     limits: Limits,
@@ -91,7 +91,7 @@ where
         question.without_ranks,
         key,
     );
-    ended(console, limits, question, &answer)
+    exit_code_of(console, limits, question, &answer)
 }
 
 // Reads the files that the question names, and answers the question within these limits.
@@ -112,14 +112,14 @@ where
     ensures { Serves limits (R.remaining reader)
         (W.contents writer.old) (W.contents writer.new) (exit_status_in result) question.now }
 {
-    let loaded = match load_path_if(rt, question.key) {
-        Ok(loaded) => loaded,
+    let loaded_key = match load_path_if(rt, question.key) {
+        Ok(loaded_key) => loaded_key,
         Err(unread) => return refuse_unread(console, &unread),
     };
-    let key = lent(&loaded);
+    let key = lent(&loaded_key);
     match question.sheet {
         Some(path) => {
-            serve_beside(
+            serve_with_sheet_file(
                 rt, alloc, limits, question, path, key, reader, writer, console,
             )
         }
@@ -135,7 +135,7 @@ where
                 without_ranks,
                 key,
             );
-            ended(console, limits, question, &answer)
+            exit_code_of(console, limits, question, &answer)
         }
     }
 }

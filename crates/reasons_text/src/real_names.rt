@@ -116,10 +116,10 @@ fn key_rows(alloc: Global, bytes: &[u8]) -> Result<Vec<ByteRecord>, AllocError>
     let mut rows = Vec::new(alloc);
     for _n in 0..u64::MAX {
         let mut row = ByteRecord::new(alloc);
-        let Ok(found) = next_row(&mut reader, &mut row) else {
+        let Ok(has_row) = next_row(&mut reader, &mut row) else {
             return Err(AllocError);
         };
-        if !found {
+        if !has_row {
             return Ok(rows);
         }
         rows.push(row)?;
@@ -129,22 +129,22 @@ fn key_rows(alloc: Global, bytes: &[u8]) -> Result<Vec<ByteRecord>, AllocError>
 
 // The real name in a key's row, and the ID if the row has one.
 fn real_fields(alloc: Global, row: &ByteRecord) -> Result<ByteRecord, AllocError>
-    ensures { IfOk result (λ real. fields_of real ≡ spec.real_fields (fields_of row.now)) }
+    ensures { IfOk result (λ name. fields_of name ≡ spec.real_fields (fields_of row.now)) }
 {
-    let mut real = ByteRecord::new(alloc);
-    real.push_field(field(row, 2))?;
+    let mut real_name = ByteRecord::new(alloc);
+    real_name.push_field(field(row, 2))?;
     if !field(row, 3).is_empty() {
-        real.push_field(field(row, 3))?;
+        real_name.push_field(field(row, 3))?;
     }
-    Ok(real)
+    Ok(real_name)
 }
 
-// A vector of `count` entries without a name.
-fn no_names(alloc: Global, count: u32) -> Result<Vec<Option<ByteRecord>>, AllocError>
-    ensures { IfOk result (λ names. map real_in names.items ≡ replicate count None) }
+// A vector of `side_size` entries without a name.
+fn no_names(alloc: Global, side_size: u32) -> Result<Vec<Option<ByteRecord>>, AllocError>
+    ensures { IfOk result (λ names. map real_in names.items ≡ replicate side_size None) }
 {
     let mut names = Vec::new(alloc);
-    for _n in 0..count {
+    for _n in 0..side_size {
         names.push(None)?;
     }
     Ok(names)
@@ -152,33 +152,33 @@ fn no_names(alloc: Global, count: u32) -> Result<Vec<Option<ByteRecord>>, AllocE
 
 // The real name of the member with this number, or none.
 fn name_at(names: &[Option<ByteRecord>], member: usize) -> Option<&ByteRecord>
-    ensures { option_map (λ real. fields_of real.now) result
+    ensures { option_map (λ real_name. fields_of real_name.now) result
         ≡ slice_index_or (map real_in names.now) member None }
 {
     match names.get(member) {
-        Some(Some(real)) => Some(real),
+        Some(Some(real_name)) => Some(real_name),
         _ => None,
     }
 }
 
 // Puts a real name at index `place`, if there is such an index.
-fn put(names: &mut Vec<Option<ByteRecord>>, place: usize, real: ByteRecord)
+fn put(names: &mut Vec<Option<ByteRecord>>, place: usize, real_name: ByteRecord)
     ensures { map real_in names.new.items
-        ≡ slice_set (map real_in names.old.items) place (Some (fields_of real)) }
+        ≡ slice_set (map real_in names.old.items) place (Some (fields_of real_name)) }
 {
     if let Some(slot) = names.get_mut(place) {
-        *slot = Some(real);
+        *slot = Some(real_name);
     }
 }
 
 // Gives a member a real name, unless an earlier row gave the member one.
 #[tactic(auto, using(crate::proofs::RealFacts::is_none_too))]
-fn note(names: &mut Vec<Option<ByteRecord>>, member: usize, real: ByteRecord)
+fn note(names: &mut Vec<Option<ByteRecord>>, member: usize, real_name: ByteRecord)
     ensures { map real_in names.new.items
-        ≡ with_first (map real_in names.old.items) (Some member) (fields_of real) }
+        ≡ with_first (map real_in names.old.items) (Some member) (fields_of real_name) }
 {
     if name_at(names.as_slice(), member).is_none() {
-        put(names, member, real);
+        put(names, member, real_name);
     }
 }
 
@@ -227,12 +227,12 @@ impl RealNames {
         ensures names { IfOk result (IsRealOf docket.now bytes.now) }
         ensures fault { IfErr result (IsNamesFault docket.now bytes.now) }
     {
-        let Ok(keys) = RandomState::new(rt) else {
+        let Ok(hash_keys) = RandomState::new(rt) else {
             return Err(NamesFault::Key(WhyFault::Docket(DocketFault::Read { place: 1 })));
         };
         let rows = key_rows(alloc, bytes)?;
-        let numbers = MemberNumbers::of(alloc, keys, docket)?;
-        named(alloc, &numbers, docket, rows.as_slice())
+        let numbers = MemberNumbers::of(alloc, hash_keys, docket)?;
+        names_in_rows(alloc, &numbers, docket, rows.as_slice())
     }
 
     // Adds the real name in one row of a key.
@@ -252,17 +252,17 @@ impl RealNames {
         let Some(member) = numbers.number(side, field(row, 1)) else {
             return Ok(());
         };
-        let real = real_fields(alloc, row)?;
+        let real_name = real_fields(alloc, row)?;
         match side {
-            Side::Programmes => note(&mut self.programmes, member as usize, real),
-            Side::Residents => note(&mut self.residents, member as usize, real),
+            Side::Programmes => note(&mut self.programmes, member as usize, real_name),
+            Side::Residents => note(&mut self.residents, member as usize, real_name),
         }
         Ok(())
     }
 
     /// The real name of a programme, if the key names it.
     pub fn programme(&self, programme: ProgrammeNo) -> Option<&ByteRecord>
-        ensures { option_map (λ real. fields_of real.now) result
+        ensures { option_map (λ real_name. fields_of real_name.now) result
             ≡ slice_index_or self.now.programmes programme None }
     {
         name_at(self.programmes.as_slice(), programme.0 as usize)
@@ -270,7 +270,7 @@ impl RealNames {
 
     /// The real name of a resident, if the key names the resident.
     pub fn resident(&self, resident: ResidentNo) -> Option<&ByteRecord>
-        ensures { option_map (λ real. fields_of real.now) result
+        ensures { option_map (λ real_name. fields_of real_name.now) result
             ≡ slice_index_or self.now.residents resident None }
     {
         name_at(self.residents.as_slice(), resident.0 as usize)
@@ -306,7 +306,7 @@ fn test_row(
 }
 
 // The real names that all rows of a key give.
-fn named(
+fn names_in_rows(
     alloc: Global,
     numbers: &MemberNumbers,
     docket: &Docket,

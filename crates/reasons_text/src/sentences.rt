@@ -1,11 +1,11 @@
 //! The sentences that answer a question.
 ghost use Rattle.std.specs.Prelude.{◌≡◌, ◌++◌, ◌==◌, IfOk, OnOk, string_bytes};
 ghost use Rattle.std.specs.List.{position_from};
-ghost use Rattle.reasons_text.specs.Lines as said;
+ghost use Rattle.reasons_text.specs.Lines as spec;
 ghost use Rattle.reasons_text.specs.Lines.{ending, first_line, has_withdrawn, line};
 ghost use Rattle.reasons_text.specs.Naming.{naming_of};
 
-use crate::answers::{Tally, count_answers};
+use crate::answers::{AnswerTally, count_answers};
 use crate::names::Names;
 use match_model::{ProgrammeNo, ResidentNo};
 use match_reasons::Why;
@@ -14,9 +14,9 @@ use std::fmt;
 
 // A rank that is written in words, such as 1st, 2nd or 3rd. The rank is stored as a number from 0.
 #[derive(Clone, Copy)]
-pub(crate) struct Place(pub(crate) usize);
+pub(crate) struct Ordinal(pub(crate) usize);
 
-impl Place {
+impl Ordinal {
     // The letters after a rank's number: st, nd, rd or th.
     #[tactic(auto, unfolding(crate::specs::Lines::ending))]
     fn ending(&self) -> &'static str
@@ -32,7 +32,7 @@ impl Place {
     }
 }
 
-impl fmt::Display for Place {
+impl fmt::Display for Ordinal {
     ghost use Rattle.std.specs.Prelude.{Some};
     ghost use Rattle.reasons_text.specs.Lines.{place_text};
 
@@ -75,7 +75,7 @@ fn full_sentence(
     without_ranks: bool,
 ) -> Result<String, AllocError>
     ensures { IfOk result (λ text.
-        string_bytes text ≡ said.full_sentence without_ranks rank last_rank quota) }
+        string_bytes text ≡ spec.full_sentence without_ranks rank last_rank quota) }
 {
     let Some(last_rank) = last_rank else {
         return format!(in alloc; "it had no places.");
@@ -83,15 +83,15 @@ fn full_sentence(
     if without_ranks {
         return format!(in alloc; "its places went to residents it ranks above you.");
     }
-    let place = Place(rank);
-    let last = Place(last_rank);
+    let ordinal = Ordinal(rank);
+    let last_ordinal = Ordinal(last_rank);
     if quota == 1 {
         return format!(in alloc;
-            "it ranked you {place}. Its one place went to the resident it ranked {last}."
+            "it ranked you {ordinal}. Its one place went to the resident it ranked {last_ordinal}."
         );
     }
     format!(in alloc;
-        "it ranked you {place}. Its {quota} places went to residents it ranked higher, the last of them {last}."
+        "it ranked you {ordinal}. Its {quota} places went to residents it ranked higher, the last of them {last_ordinal}."
     )
 }
 
@@ -103,7 +103,7 @@ fn withdrawn_sentence(
     resident: ResidentNo,
 ) -> Result<String, AllocError>
     ensures { IfOk result (λ text. string_bytes text
-        ≡ said.withdrawn_sentence (said.has_withdrawn (naming_of names.now) resident)) }
+        ≡ spec.withdrawn_sentence (spec.has_withdrawn (naming_of names.now) resident)) }
 {
     if names.resident_withdrew(resident) {
         format!(in alloc; "you withdrew from the match.")
@@ -122,7 +122,7 @@ fn sentence(
     without_ranks: bool,
 ) -> Result<String, AllocError>
     ensures { IfOk result (λ text.
-        string_bytes text ≡ said.sentence (naming_of names.now) without_ranks resident reason) }
+        string_bytes text ≡ spec.sentence (naming_of names.now) without_ranks resident reason) }
 {
     match reason {
         Why::Withdrawn => withdrawn_sentence(alloc, names, resident),
@@ -134,10 +134,12 @@ fn sentence(
             own_rank,
             rank,
         } => {
-            let own = names.programme(own);
-            let own_place = Place(own_rank);
-            let place = Place(rank);
-            format!(in alloc; "this was your {place} choice, and you have your {own_place}, {own}.")
+            let own_name = names.programme(own);
+            let own_ordinal = Ordinal(own_rank);
+            let ordinal = Ordinal(rank);
+            format!(in alloc;
+                "this was your {ordinal} choice, and you have your {own_ordinal}, {own_name}."
+            )
         }
         Why::Full {
             rank,
@@ -164,10 +166,10 @@ pub(crate) fn push_line(
     ensures { OnOk result (string_bytes text.new ≡ string_bytes text.old
         ++ line (naming_of names.now) without_ranks resident programme reason) }
 {
-    let said = sentence(alloc, names, resident, reason, without_ranks)?;
+    let sentence_text = sentence(alloc, names, resident, reason, without_ranks)?;
     text.push_str(names.programme(programme))?;
     text.push_str(": ")?;
-    text.push_str(said.as_str())?;
+    text.push_str(sentence_text.as_str())?;
     text.push_str("\n")
 }
 
@@ -181,76 +183,86 @@ fn choice_of(list: &[ProgrammeNo], programme: ProgrammeNo) -> Option<usize>
 // How the match ended for a resident who is matched with this programme. `choice` is the programme's index on the
 // resident's list. If the programme withdrew or didn't rank the resident, the sheet is wrong, and the text says so.
 #[tactic(auto, unfolding(crate::specs::Lines::matched, crate::specs::Lines::given, crate::specs::Lines::as_choice))]
-fn matched(
+fn matched_sentence(
     alloc: Global,
-    name: &str,
+    programme_name: &str,
     choice: Option<usize>,
     reasons: &[Why],
 ) -> Result<String, AllocError>
-    ensures { IfOk result (λ text. string_bytes text ≡ said.matched name.now choice reasons.now) }
+    ensures { IfOk result (λ text.
+        string_bytes text ≡ spec.matched programme_name.now choice reasons.now) }
 {
     let Some(choice) = choice else {
-        return format!(in alloc; "You are matched with {name}, which is not on your list.");
+        return format!(in alloc;
+            "You are matched with {programme_name}, which is not on your list."
+        );
     };
     match reasons.get(choice) {
         Some(Why::NotRanked) => format!(in alloc;
-            "This sheet is not right: it gives you {name}, which did not rank you. Please tell the office."
+            "This sheet is not right: it gives you {programme_name}, which did not rank you. Please tell the office."
         ),
         Some(Why::Withdrawn) => format!(in alloc;
-            "This sheet is not right: it gives you {name}, which withdrew from the match. Please tell the office."
+            "This sheet is not right: it gives you {programme_name}, which withdrew from the match. Please tell the office."
         ),
         _ => {
-            let place = Place(choice);
-            let listed = reasons.len();
-            format!(in alloc; "You are matched with {name}, your {place} choice of {listed}.")
+            let ordinal = Ordinal(choice);
+            let programme_count = reasons.len();
+            format!(in alloc;
+                "You are matched with {programme_name}, your {ordinal} choice of {programme_count}."
+            )
         }
     }
 }
 
 // How the match ended for a resident who did not withdraw: whether the resident is matched, and with which choice.
 #[tactic(auto, unfolding(crate::specs::Lines::outcome))]
-fn outcome(
+fn outcome_sentence(
     alloc: Global,
     names: &Names,
-    own: Option<ProgrammeNo>,
+    own_programme: Option<ProgrammeNo>,
     list: &[ProgrammeNo],
     reasons: &[Why],
 ) -> Result<String, AllocError>
     ensures { IfOk result (λ text.
-        string_bytes text ≡ said.outcome (naming_of names.now) own list.now reasons.now) }
+        string_bytes text ≡ spec.outcome (naming_of names.now) own_programme list.now reasons.now) }
 {
-    match own {
-        Some(own) => matched(alloc, names.programme(own), choice_of(list, own), reasons),
+    match own_programme {
+        Some(own_programme) => matched_sentence(
+            alloc,
+            names.programme(own_programme),
+            choice_of(list, own_programme),
+            reasons,
+        ),
         None => format!(in alloc; "You are not matched."),
     }
 }
 
 // How the match ended for a resident, withdrawn or not.
 #[tactic(auto, unfolding(crate::specs::Lines::ended))]
-fn ended(
+fn ended_sentence(
     alloc: Global,
     names: &Names,
     resident: ResidentNo,
-    own: Option<ProgrammeNo>,
+    own_programme: Option<ProgrammeNo>,
     list: &[ProgrammeNo],
     reasons: &[Why],
 ) -> Result<String, AllocError>
-    ensures { IfOk result (λ text.
-        string_bytes text ≡ said.ended (naming_of names.now) resident own list.now reasons.now) }
+    ensures { IfOk result (λ text. string_bytes text
+        ≡ spec.ended (naming_of names.now) resident own_programme list.now reasons.now) }
 {
     if names.resident_withdrew(resident) {
         format!(in alloc; "You withdrew from the match.")
     } else {
-        outcome(alloc, names, own, list, reasons)
+        outcome_sentence(alloc, names, own_programme, list, reasons)
     }
 }
 
 // The word `programme` or `programmes`, for this number.
 #[tactic(auto, unfolding(crate::specs::Lines::programmes_word))]
-fn programmes_word(listed: usize) -> &'static str
-    ensures { result.now ≡ said.programmes_word listed }
+fn programmes_word(programme_count: usize) -> &'static str
+    ensures { result.now ≡ spec.programmes_word programme_count }
 {
-    if listed == 1 {
+    if programme_count == 1 {
         "programme"
     } else {
         "programmes"
@@ -259,22 +271,26 @@ fn programmes_word(listed: usize) -> &'static str
 
 // How many programmes a resident ranked, how many of these ranked the resident, and how many withdrew.
 #[tactic(auto, unfolding(crate::specs::Lines::ranked))]
-fn ranked(alloc: Global, has_withdrawn: bool, tally: Tally) -> Result<String, AllocError>
-    ensures { IfOk result (λ text. string_bytes text
-        ≡ said.ranked has_withdrawn tally.listed tally.ranked_back tally.withdrew) }
+fn ranked_sentence(
+    alloc: Global,
+    has_withdrawn: bool,
+    tally: AnswerTally,
+) -> Result<String, AllocError>
+    ensures { IfOk result (λ text. string_bytes text ≡ spec.ranked has_withdrawn
+        tally.listed_count tally.ranked_back_count tally.withdrawal_count) }
 {
-    let listed = tally.listed;
-    if listed == 0 {
+    let programme_count = tally.listed_count;
+    if programme_count == 0 {
         return format!(in alloc; " You ranked no programme.\n");
     }
-    let programmes = programmes_word(listed);
+    let programme_word = programmes_word(programme_count);
     if has_withdrawn {
-        return format!(in alloc; " You had ranked {listed} {programmes}.\n");
+        return format!(in alloc; " You had ranked {programme_count} {programme_word}.\n");
     }
-    let ranked_back = Count(tally.ranked_back);
-    let withdrew = Count(tally.withdrew);
+    let ranked_back = Count(tally.ranked_back_count);
+    let withdrew = Count(tally.withdrawal_count);
     format!(in alloc;
-        " You ranked {listed} {programmes}: {ranked_back} ranked you too, {withdrew} withdrew.\n"
+        " You ranked {programme_count} {programme_word}: {ranked_back} ranked you too, {withdrew} withdrew.\n"
     )
 }
 
@@ -285,16 +301,16 @@ pub(crate) fn push_first_line(
     text: &mut String,
     names: &Names,
     resident: ResidentNo,
-    own: Option<ProgrammeNo>,
+    own_programme: Option<ProgrammeNo>,
     list: &[ProgrammeNo],
     reasons: &[Why],
 ) -> Result<(), AllocError>
     ensures { OnOk result (string_bytes text.new ≡ string_bytes text.old
-        ++ first_line (naming_of names.now) resident own list.now reasons.now) }
+        ++ first_line (naming_of names.now) resident own_programme list.now reasons.now) }
 {
     let tally = count_answers(reasons);
-    let ended = ended(alloc, names, resident, own, list, reasons)?;
-    let ranked = ranked(alloc, names.resident_withdrew(resident), tally)?;
-    text.push_str(ended.as_str())?;
-    text.push_str(ranked.as_str())
+    let ended_text = ended_sentence(alloc, names, resident, own_programme, list, reasons)?;
+    let ranked_text = ranked_sentence(alloc, names.resident_withdrew(resident), tally)?;
+    text.push_str(ended_text.as_str())?;
+    text.push_str(ranked_text.as_str())
 }

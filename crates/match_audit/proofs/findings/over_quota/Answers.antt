@@ -17,14 +17,14 @@ loop-p-preserved c = λ m h.
     let count : load.members ≡ member_count m p = (h.each p load at).members in
     elim c.if-members-quota.branch [
       | then-members-quota+in_ok-push w ↦
-          rw (ap (λ (v : Vec (ℕ × ℕ)). v.items) w.over-is ∙ w.in_ok-push.ensures.items)
-          (Lists_more_one (IsOver c.args.inst.now m) p load.members c.loop-p.over.items (c.loop-p.invariant m h)
+          rw (ap (λ (v : Vec (ℕ × ℕ)). v.items) w.programmes_over-is ∙ w.in_ok-push.ensures.items)
+          (Lists_more_one (IsOver c.args.inst.now m) p load.members c.loop-p.programmes_over.items (c.loop-p.invariant m h)
           (member, sym count, let l = w.if-members-quota.true in let q = c.quota.ensures in omega arith) (λ n u. sym u.1 ∙ sym count))
       | else-members-quota w ↦
-          rw (ap (λ (v : Vec (ℕ × ℕ)). v.items) w.over-is)
-          (Lists_more_none (IsOver c.args.inst.now m) p c.loop-p.over.items (c.loop-p.invariant m h)
+          rw (ap (λ (v : Vec (ℕ × ℕ)). v.items) w.programmes_over-is)
+          (Lists_more_none (IsOver c.args.inst.now m) p c.loop-p.programmes_over.items (c.loop-p.invariant m h)
           (λ n u. let a = u.1 in let b = u.2 in let l = w.if-members-quota.false in let q = c.quota.ensures in omega arith))
     ]
 
 pub returns : goal.returns
-returns c = λ m h. Lists_all (IsOver c.args.inst.now m) c.loop-p.p c.loop-p.over.items (c.loop-p.invariant m h) (λ p n u. let l = u.0 in let e = c.programmes-p-end.ensures.count in omega arith)
+returns c = λ m h. Lists_all (IsOver c.args.inst.now m) c.loop-p.p c.loop-p.programmes_over.items (c.loop-p.invariant m h) (λ p n u. let l = u.0 in let e = c.programmes-p-end.ensures.count in omega arith)

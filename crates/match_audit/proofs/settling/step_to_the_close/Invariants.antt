@@ -5,8 +5,8 @@ use Rattle.exchange_core.specs.Shown.{Shows}
 use Rattle.exchange_core.specs.Steps.{IsCoreOf}
 use Rattle.match_audit.proofs.settling.step_to_the_close.Given as goal
 
-abbrev pub invariant-loop-done : goal.invariant-loop-done
-invariant-loop-done l = record {
+abbrev pub invariant-loop-turn : goal.invariant-loop-turn
+invariant-loop-turn l = record {
   core : IsCoreOf l.inst l.core;
-  shows : (j : List Event) × Shows l.inst Full j l.core × (l._done ≤ length j);
+  shows : (j : List Event) × Shows l.inst Full j l.core × (l._turn ≤ length j);
 }

@@ -10,39 +10,39 @@ use Rattle.match_model.proofs.Gathered.{memory_alone, same_err}
 use Rattle.match_model.proofs.mutual_parts.mutual_in_turn.Goals as goal
 
 pub owners_of_rows-requires-clause-below : goal.owners_of_rows-requires-clause-below
-owners_of_rows-requires-clause-below c = subst (λ (n : ℕ). All (λ list. list_all (λ x. ltb x n) list ≡ true) c.args.theirs.now.rows) (sym c.len.ensures) c.requires.below
+owners_of_rows-requires-clause-below c = subst (λ (n : ℕ). All (λ list. list_all (λ x. ltb x n) list ≡ true) c.args.other_rows.now.rows) (sym c.len.ensures) c.requires.below
 
-pub all_kept-requires-clause-lists : goal.all_kept-requires-clause-lists
-all_kept-requires-clause-lists c = subst (AreLists c.args.mine.now) (sym c.len-2.ensures) c.requires.lists
+pub rows_kept-requires-clause-lists : goal.rows_kept-requires-clause-lists
+rows_kept-requires-clause-lists c = subst (AreLists c.args.own_lists.now) (sym c.len-2.ensures) c.requires.lists
 
-pub all_kept-requires-clause-rows : goal.all_kept-requires-clause-rows
-all_kept-requires-clause-rows c =
+pub rows_kept-requires-clause-rows : goal.rows_kept-requires-clause-rows
+rows_kept-requires-clause-rows c =
     let rows : List (List ℕ) = c.in_ok-rows.rows.rows in
-    let owned : AreOwners (length c.args.mine.now) (length c.args.theirs.now.rows) c.args.theirs.now.rows rows = subst (λ (n : ℕ). AreOwners n (length c.args.theirs.now.rows) c.args.theirs.now.rows rows) c.len.ensures c.in_ok-rows.ensures in
-    subst (λ (n : ℕ). AreRows (length c.args.mine.now) n rows) (sym c.len-2.ensures)
-    (AreRows-owners (length c.args.mine.now) (length c.args.theirs.now.rows) c.args.theirs.now.rows rows owned)
+    let owned : AreOwners (length c.args.own_lists.now) (length c.args.other_rows.now.rows) c.args.other_rows.now.rows rows = subst (λ (n : ℕ). AreOwners n (length c.args.other_rows.now.rows) c.args.other_rows.now.rows rows) c.len.ensures c.in_ok-rows.ensures in
+    subst (λ (n : ℕ). AreRows (length c.args.own_lists.now) n rows) (sym c.len-2.ensures)
+    (AreRows-owners (length c.args.own_lists.now) (length c.args.other_rows.now.rows) c.args.other_rows.now.rows rows owned)
 
 pub returns-clause-lists : goal.returns-clause-lists
 returns-clause-lists c =
     let rows : List (List ℕ) = c.in_ok-rows.rows.rows in
-    let left : List (List ℕ) = lists_left c.args.mine.now c.args.mine_withdrawn.now in
-    let owned : AreOwners (length left) (length c.args.theirs.now.rows) c.args.theirs.now.rows rows =
-    subst (λ (n : ℕ). AreOwners n (length c.args.theirs.now.rows) c.args.theirs.now.rows rows) (c.len.ensures ∙ sym (length-lists_left c.args.mine.now c.args.mine_withdrawn.now)) c.in_ok-rows.ensures in
-    c.in_ok-kept.ensures.lists ∙ ap (λ (lists : List (List ℕ)). record { rows = lists; begun = [] }) (kept_are_mutual left c.args.theirs.now.rows rows owned)
+    let left : List (List ℕ) = lists_left c.args.own_lists.now c.args.own_withdrawn.now in
+    let owned : AreOwners (length left) (length c.args.other_rows.now.rows) c.args.other_rows.now.rows rows =
+    subst (λ (n : ℕ). AreOwners n (length c.args.other_rows.now.rows) c.args.other_rows.now.rows rows) (c.len.ensures ∙ sym (length-lists_left c.args.own_lists.now c.args.own_withdrawn.now)) c.in_ok-rows.ensures in
+    c.in_ok-kept_rows.ensures.lists ∙ ap (λ (lists : List (List ℕ)). record { rows = lists; begun = [] }) (kept_are_mutual left c.args.other_rows.now.rows rows owned)
 
 pub returns-clause-choices : goal.returns-clause-choices
 returns-clause-choices c =
     let rows : List (List ℕ) = c.in_ok-rows.rows.rows in
-    let left : List (List ℕ) = lists_left c.args.mine.now c.args.mine_withdrawn.now in
-    let kept = ap (λ (t : RowLists ℕ). t.rows) c.in_ok-kept.ensures.lists in
+    let left : List (List ℕ) = lists_left c.args.own_lists.now c.args.own_withdrawn.now in
+    let kept = ap (λ (t : RowLists ℕ). t.rows) c.in_ok-kept_rows.ensures.lists in
     subst (λ (lists : List (List ℕ)). AreChoices lists rows) (sym kept) (record {
-      one_row_each = c.in_ok-rows.ensures.one_each ∙ c.len.ensures ∙ sym (length-kept_lists left rows ∙ length-lists_left c.args.mine.now c.args.mine_withdrawn.now);
+      one_row_each = c.in_ok-rows.ensures.one_each ∙ c.len.ensures ∙ sym (length-kept_lists left rows ∙ length-lists_left c.args.own_lists.now c.args.own_withdrawn.now);
       covered = kept_covered left rows;
-      rising = (AreRows-owners c.len.result (length c.args.theirs.now.rows) c.args.theirs.now.rows rows c.in_ok-rows.ensures).rising;
+      rising = (AreRows-owners c.len.result (length c.args.other_rows.now.rows) c.args.other_rows.now.rows rows c.in_ok-rows.ensures).rising;
     })
 
-pub returns-in_err-kept-clause-cause : goal.returns-in_err-kept-clause-cause
-returns-in_err-kept-clause-cause c =
+pub returns-in_err-kept_rows-clause-cause : goal.returns-in_err-kept_rows-clause-cause
+returns-in_err-kept_rows-clause-cause c =
     let rows : List (List ℕ) = c.in_ok-rows.rows.rows in
-    same_err c.from_residual-in_err-kept.result c.in_err-kept.field-0.0 (λ fault. fault ≡ Memory) c.from_residual-in_err-kept.ensures.1
-    (memory_alone (sum_by length (kept_lists (lists_left c.args.mine.now c.args.mine_withdrawn.now) rows)) c.in_err-kept.field-0.0 c.in_err-kept.ensures.cause)
+    same_err c.from_residual-in_err-kept_rows.result c.in_err-kept_rows.field-0.0 (λ fault. fault ≡ Memory) c.from_residual-in_err-kept_rows.ensures.1
+    (memory_alone (sum_by length (kept_lists (lists_left c.args.own_lists.now c.args.own_withdrawn.now) rows)) c.in_err-kept_rows.field-0.0 c.in_err-kept_rows.ensures.cause)

@@ -14,7 +14,7 @@ enter-requires-clause-room c = λ x e.
     let n : ℕ = length c.args.lists.now in
     let all : List (List ℕ) = lists_left c.args.lists.now c.args.withdrawn.now in
     let listed : is_listed (list_at all i) x ≡ true = ap (λ (xs : List ℕ). is_listed xs x) (sym c.remaining.ensures) ∙ e in
-    let within : x < c.args.count = is_listed_below c.args.count (list_at all i) x (c.requires.below i [] (omega (arith, length-lists_left c.args.lists.now c.args.withdrawn.now, c.loop-owner-test.true, c.len-owner-end.ensures))) listed in
+    let within : x < c.args.member_count = is_listed_below c.args.member_count (list_at all i) x (c.requires.below i [] (omega (arith, length-lists_left c.args.lists.now c.args.withdrawn.now, c.loop-owner-test.true, c.len-owner-end.ensures))) listed in
     let number = c.loop-owner.invariant.counted.number x within in
     let many = c.loop-owner.invariant.room x within in
     let here = ap (λ (ns : List ℕ). get_or ns x 0) c.deref_mut.ensures.value in
@@ -22,12 +22,12 @@ enter-requires-clause-room c = λ x e.
     omega (arith, number, many, here, room)
 
 pub enter-requires-clause-few : goal.enter-requires-clause-few
-enter-requires-clause-few c = counts_few c.args.count c.loop-owner.owner (lists_left c.args.lists.now c.args.withdrawn.now) c.loop-owner.counts.items c.deref_mut.result.now c.deref_mut.ensures.value c.loop-owner.invariant.counted (omega (arith, c.loop-owner-test.true, c.len-owner-end.ensures, c.requires.few))
+enter-requires-clause-few c = counts_few c.args.member_count c.loop-owner.owner (lists_left c.args.lists.now c.args.withdrawn.now) c.loop-owner.counts.items c.deref_mut.result.now c.deref_mut.ensures.value c.loop-owner.invariant.counted (omega (arith, c.loop-owner-test.true, c.len-owner-end.ensures, c.requires.few))
 
 pub loop-owner-init : goal.loop-owner-init
 loop-owner-init c =
-    AreBegun-none c.args.count (length c.args.lists.now) (lists_left c.args.lists.now c.args.withdrawn.now) c.in_ok-rows.rows.rows c.deref.result.now c.in_ok-counts.counts.items
-    (subst (AreCounts c.args.count (length c.args.lists.now) (lists_left c.args.lists.now c.args.withdrawn.now)) (sym c.deref.ensures.value) c.in_ok-lengths.ensures) c.in_ok-rows.ensures (search rules)
+    AreBegun-none c.args.member_count (length c.args.lists.now) (lists_left c.args.lists.now c.args.withdrawn.now) c.in_ok-rows.rows.rows c.deref.result.now c.in_ok-counts.counts.items
+    (subst (AreCounts c.args.member_count (length c.args.lists.now) (lists_left c.args.lists.now c.args.withdrawn.now)) (sym c.deref.ensures.value) c.in_ok-lengths.ensures) c.in_ok-rows.ensures (search rules)
 
 pub loop-owner-preserved : goal.loop-owner-preserved
 loop-owner-preserved c =
@@ -43,12 +43,12 @@ loop-owner-preserved c =
     subst (λ (list : List ℕ). AreStepped [] (λ (x : ℕ) (row : List ℕ). set row (get_or counts x 0) i) list c.loop-owner.rows.rows c.enter.new.rows.rows) c.remaining.ensures
     (subst (λ (ns : List ℕ). AreStepped [] (λ (x : ℕ) (row : List ℕ). set row (get_or ns x 0) i) c.remaining.result.now c.loop-owner.rows.rows c.enter.new.rows.rows) c.deref_mut.ensures.value c.enter.ensures.entered) in
     let many : length c.enter.new.counts ≡ c.loop-owner.counts.len = c.enter.ensures.counted.one_each ∙ c.deref_mut.ensures.len in
-    subst (AreBegun c.args.count n (i + 1) all c.enter.new.rows.rows) (sym (with_items_is c.loop-owner.counts c.enter.new.counts many))
-    (AreBegun-more c.args.count n i all c.loop-owner.rows.rows c.enter.new.rows.rows counts c.enter.new.counts (omega (arith, c.loop-owner-test.true, c.len-owner-end.ensures)) c.loop-owner.invariant entered counted)
+    subst (AreBegun c.args.member_count n (i + 1) all c.enter.new.rows.rows) (sym (with_items_is c.loop-owner.counts c.enter.new.counts many))
+    (AreBegun-more c.args.member_count n i all c.loop-owner.rows.rows c.enter.new.rows.rows counts c.enter.new.counts (omega (arith, c.loop-owner-test.true, c.len-owner-end.ensures)) c.loop-owner.invariant entered counted)
 
 pub returns : goal.returns
 returns c =
     let n : ℕ = length c.args.lists.now in
     let all : List (List ℕ) = lists_left c.args.lists.now c.args.withdrawn.now in
     let end : c.loop-owner.owner ≡ n = omega arith in
-    AreOwners-begun c.args.count n all c.loop-owner.rows.rows c.loop-owner.counts.items (subst (λ (m : ℕ). AreBegun c.args.count n m all c.loop-owner.rows.rows c.loop-owner.counts.items) end c.loop-owner.invariant)
+    AreOwners-begun c.args.member_count n all c.loop-owner.rows.rows c.loop-owner.counts.items (subst (λ (m : ℕ). AreBegun c.args.member_count n m all c.loop-owner.rows.rows c.loop-owner.counts.items) end c.loop-owner.invariant)

@@ -3,4 +3,4 @@ use Rattle.match_model.specs.Owners.{AreCounts}
 use Rattle.match_model.proofs.owners.row_lengths.Given as goal
 
 abbrev pub invariant-loop-owner : goal.invariant-loop-owner
-invariant-loop-owner l = AreCounts l.count l.owner (lists_left l.lists l.withdrawn) l.counts.items
+invariant-loop-owner l = AreCounts l.member_count l.owner (lists_left l.lists l.withdrawn) l.counts.items

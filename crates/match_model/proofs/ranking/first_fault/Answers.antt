@@ -33,11 +33,11 @@ loop-place-preserved c =
     let e = take_more list i 0 c.loop-place-test.true in
     let new : is_listed (take i list) x ≡ false =
     sym c.stands_in.ensures ∙ c.if-stands_in.false in
-    let below : x < c.args.others = omega arith in
+    let below : x < c.args.other_count = omega arith in
     record {
-      below = list_all_more (λ y. ltb y c.args.others) list i 0 c.loop-place-test.true ∙ ap (λ b. b && ltb x c.args.others) c.loop-place.invariant.below ∙ lt-ltb x c.args.others below;
+      below = list_all_more (λ y. ltb y c.args.other_count) list i 0 c.loop-place-test.true ∙ ap (λ b. b && ltb x c.args.other_count) c.loop-place.invariant.below ∙ lt-ltb x c.args.other_count below;
       distinct = ap has_no_repeats e ∙ has_no_repeats-push (take i list) x ∙ ap (λ b. has_no_repeats (take i list) && not b) new ∙ ap (λ b. b && true) c.loop-place.invariant.distinct;
-      noted = ArePlaces-more list c.loop-place.places i c.loop-place-test.true
+      noted = ArePlaces-more list c.loop-place.item_places i c.loop-place-test.true
           (λ k l same. unlisted_apart (take i list) x new k (omega (arith, length-take i list, c.loop-place-test.true)) (get_or-take i list k 0 l ∙ same))
-          (omega (arith, c.loop-place.auto.places)) c.loop-place.invariant.noted;
+          (omega (arith, c.loop-place.auto.item_places)) c.loop-place.invariant.noted;
     }

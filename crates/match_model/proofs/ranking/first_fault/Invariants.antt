@@ -6,7 +6,7 @@ use Rattle.match_model.proofs.ranking.first_fault.Given as goal
 
 abbrev pub invariant-loop-place : goal.invariant-loop-place
 invariant-loop-place l = record {
-  below : list_all (λ x. ltb x l.others) (take l.place l.items) ≡ true;
+  below : list_all (λ x. ltb x l.other_count) (take l.place l.items) ≡ true;
   distinct : has_no_repeats (take l.place l.items) ≡ true;
-  noted : ArePlaces (take l.place l.items) l.places;
+  noted : ArePlaces (take l.place l.items) l.item_places;
 }

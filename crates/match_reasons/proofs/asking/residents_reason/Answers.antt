@@ -30,7 +30,7 @@ returns-in_default-rank_at_resident-clause-first c =
     let w = lists_of_pair c.args.listed.now.instance c.args.listed.now.written c.args.resident c.args.programme c.instance-inst.ensures.lists in
     let resident = resident_stays _ _ _ _ c.instance-inst.ensures.instance c.resident_withdrawn.ensures c.if-resident_withdrawn.false in
     let programme = programme_stays _ _ _ _ c.instance-inst.ensures.instance c.programme_withdrawn.ensures c.if-programme_withdrawn.false in
-    let listed = (ranked (list_at c.args.listed.now.written.resident_lists c.args.resident) c.args.programme c.in-Some.rank (sym c.in-Some.is ∙ rank_written _ _ _ _ _ c.lists-written.ensures c.rank_of_programme.ensures)).0 in
+    let listed = (ranked (list_at c.args.listed.now.written.resident_lists c.args.resident) c.args.programme c.in-Some.rank (sym c.in-Some.is ∙ rank_written _ _ _ _ _ c.lists-written_lists.ensures c.rank_of_programme.ensures)).0 in
     first_unranked c.args.listed.now.instance (list_at c.args.listed.now.written.resident_lists c.args.resident) (list_at c.args.listed.now.written.programme_lists c.args.programme) c.args.sheet.now c.args.resident c.args.programme (here _ _ resident programme) listed
     (λ ranks. unranked (list_of_resident c.args.listed.now.instance c.args.resident) c.args.programme (sym c.in_default-rank_at_resident.is ∙ rank_mutual _ _ _ _ _ c.instance-inst.ensures.instance c.rank_at_resident.ensures)
     ((c.instance-inst.ensures.whole.both_rank c.args.programme c.args.resident).0
@@ -60,12 +60,12 @@ returns-in_default-get-clause-first c =
 pub returns-in_default-rank_of_programme-clause-first : goal.returns-in_default-rank_of_programme-clause-first
 returns-in_default-rank_of_programme-clause-first c =
     let w = lists_of_pair c.args.listed.now.instance c.args.listed.now.written c.args.resident c.args.programme c.instance-inst.ensures.lists in
-    let own : ℕ = c.in-Some-get.own in
+    let own : ℕ = c.in-Some-get.own_programme in
     let pair = acceptable c.args.listed.now.instance c.instance-inst.ensures.whole c.args.resident c.args.programme c.in-Some-rank_at_resident.field-0 (sym c.in-Some-rank_at_resident.is ∙ rank_mutual _ _ _ _ _ c.instance-inst.ensures.instance c.rank_at_resident.ensures) in
     asks c.args.listed.now.instance c.instance-inst.ensures.whole (list_at c.args.listed.now.written.resident_lists c.args.resident) (list_at c.args.listed.now.written.programme_lists c.args.programme) c.args.sheet.now c.args.resident c.args.programme w c.requires.resident pair
     (λ m. let t = c.is_member.ensures.1 m in let f = c.if-is_member.false in cc)
-    (before_unlisted (list_at c.args.listed.now.written.resident_lists c.args.resident) c.args.sheet.now c.args.resident c.args.programme c.in-Some.rank own (sym c.in-Some.is ∙ rank_written _ _ _ _ _ c.lists-written.ensures c.rank_of_programme.ensures) (sym c.get.ensures ∙ c.in-Some-get.is)
-    (sym c.in_default-rank_of_programme.is ∙ rank_written _ _ _ _ _ c.lists-written.ensures c.rank_of_programme-2.ensures))
+    (before_unlisted (list_at c.args.listed.now.written.resident_lists c.args.resident) c.args.sheet.now c.args.resident c.args.programme c.in-Some.rank own (sym c.in-Some.is ∙ rank_written _ _ _ _ _ c.lists-written_lists.ensures c.rank_of_programme.ensures) (sym c.get.ensures ∙ c.in-Some-get.is)
+    (sym c.in_default-rank_of_programme.is ∙ rank_written _ _ _ _ _ c.lists-written_lists.ensures c.rank_of_programme-2.ensures))
 
 pub returns-then-own_rank-rank-clause-first : goal.returns-then-own_rank-rank-clause-first
 returns-then-own_rank-rank-clause-first c =
@@ -75,19 +75,19 @@ returns-then-own_rank-rank-clause-first c =
     let pair = acceptable c.args.listed.now.instance c.instance-inst.ensures.whole c.args.resident c.args.programme c.in-Some-rank_at_resident.field-0 (sym c.in-Some-rank_at_resident.is ∙ rank_mutual _ _ _ _ _ c.instance-inst.ensures.instance c.rank_at_resident.ensures) in
     let both = written_parts c.args.listed.now.instance c.args.resident c.args.programme (list_at c.args.listed.now.written.resident_lists c.args.resident) (list_at c.args.listed.now.written.programme_lists c.args.programme) w pair in
     first_better c.args.listed.now.instance (list_at c.args.listed.now.written.resident_lists c.args.resident) (list_at c.args.listed.now.written.programme_lists c.args.programme) c.args.sheet.now c.args.resident c.args.programme (here _ _ resident programme) both.1
-    (λ m. let t = c.is_member.ensures.1 m in let f = c.if-is_member.false in cc) c.in-Some-get.own c.in-Some-rank_of_programme.own_rank c.in-Some.rank (record {
+    (λ m. let t = c.is_member.ensures.1 m in let f = c.if-is_member.false in cc) c.in-Some-get.own_programme c.in-Some-rank_of_programme.own_rank c.in-Some.rank (record {
       has_own = sym c.get.ensures ∙ c.in-Some-get.is;
-      own_ranked = sym (rank_written _ _ _ _ _ c.lists-written.ensures c.rank_of_programme-2.ensures) ∙ c.in-Some-rank_of_programme.is;
-      ranked = sym (rank_written _ _ _ _ _ c.lists-written.ensures c.rank_of_programme.ensures) ∙ c.in-Some.is;
+      own_ranked = sym (rank_written _ _ _ _ _ c.lists-written_lists.ensures c.rank_of_programme-2.ensures) ∙ c.in-Some-rank_of_programme.is;
+      ranked = sym (rank_written _ _ _ _ _ c.lists-written_lists.ensures c.rank_of_programme.ensures) ∙ c.in-Some.is;
       before = c.if-own_rank-rank.true;
     })
 
 pub returns-else-own_rank-rank-clause-first : goal.returns-else-own_rank-rank-clause-first
 returns-else-own_rank-rank-clause-first c =
     let w = lists_of_pair c.args.listed.now.instance c.args.listed.now.written c.args.resident c.args.programme c.instance-inst.ensures.lists in
-    let own : ℕ = c.in-Some-get.own in
+    let own : ℕ = c.in-Some-get.own_programme in
     let not : IsMemberOf c.args.sheet.now c.args.resident c.args.programme → ⊥ = λ m. let t = c.is_member.ensures.1 m in let f = c.if-is_member.false in cc in
     let pair = acceptable c.args.listed.now.instance c.instance-inst.ensures.whole c.args.resident c.args.programme c.in-Some-rank_at_resident.field-0 (sym c.in-Some-rank_at_resident.is ∙ rank_mutual _ _ _ _ _ c.instance-inst.ensures.instance c.rank_at_resident.ensures) in
     asks c.args.listed.now.instance c.instance-inst.ensures.whole (list_at c.args.listed.now.written.resident_lists c.args.resident) (list_at c.args.listed.now.written.programme_lists c.args.programme) c.args.sheet.now c.args.resident c.args.programme w c.requires.resident pair not
-    (before_later (list_at c.args.listed.now.written.resident_lists c.args.resident) c.args.sheet.now c.args.resident c.args.programme c.in-Some-rank_of_programme.own_rank c.in-Some.rank own (sym c.in-Some.is ∙ rank_written _ _ _ _ _ c.lists-written.ensures c.rank_of_programme.ensures)
-    (sym c.get.ensures ∙ c.in-Some-get.is) (sym c.in-Some-rank_of_programme.is ∙ rank_written _ _ _ _ _ c.lists-written.ensures c.rank_of_programme-2.ensures) (omega arith) not)
+    (before_later (list_at c.args.listed.now.written.resident_lists c.args.resident) c.args.sheet.now c.args.resident c.args.programme c.in-Some-rank_of_programme.own_rank c.in-Some.rank own (sym c.in-Some.is ∙ rank_written _ _ _ _ _ c.lists-written_lists.ensures c.rank_of_programme.ensures)
+    (sym c.get.ensures ∙ c.in-Some-get.is) (sym c.in-Some-rank_of_programme.is ∙ rank_written _ _ _ _ _ c.lists-written_lists.ensures c.rank_of_programme-2.ensures) (omega arith) not)

@@ -17,14 +17,14 @@ loop-r-preserved-in_default c =
     let none : get_or c.args.sheet.now c.loop-r.r None ≡ None = sym c.get.ensures ∙ c.in_default.is in
     record {
       each = c.loop-r.invariant.each;
-      so_far = AreSoFar-other c.args.listed.now.written c.args.sheet.now c.loop-r.r c.loop-r.takens.items (omega arith) c.loop-r.invariant.so_far (λ p within is. cc);
+      so_far = AreSoFar-other c.args.listed.now.written c.args.sheet.now c.loop-r.r c.loop-r.taken_places.items (omega arith) c.loop-r.invariant.so_far (λ p within is. cc);
     }
 
 pub add-requires : goal.add-requires
 add-requires c =
     let p : ℕ = c.programme.inside.0 in
     let t : Taken = c.index_mut.result.now in
-    let read : slice_get c.loop-r.takens.items p ≡ Some t = slice_get_read c.loop-r.takens.items c.args.programmes p t (sym c.loop-r.invariant.each) (omega arith) c.index_mut.ensures.value in
+    let read : slice_get c.loop-r.taken_places.items p ≡ Some t = slice_get_read c.loop-r.taken_places.items c.args.programmes p t (sym c.loop-r.invariant.each) (omega arith) c.index_mut.ensures.value in
     let few = few_so_far (list_at c.args.listed.now.written.programme_lists p) c.args.sheet.now p c.loop-r.r t.members t.last (omega arith) (c.loop-r.invariant.so_far p t read) in
     omega arith
 
@@ -34,22 +34,22 @@ loop-r-preserved c =
     let m : List (Option ℕ) = c.args.sheet.now in
     let r : ℕ = c.loop-r.r in
     let p : ℕ = c.programme.inside.0 in
-    let old : List Taken = c.loop-r.takens.items in
+    let old : List Taken = c.loop-r.taken_places.items in
     let here : IsMemberOf m r p = sym c.get.ensures ∙ c.in-Some.is ∙ ap Some (sym c.programme.view_is) in
     elim c.if-programme-programmes.branch [
       | then-programme-programmes w ↦
           let t : Taken = w.index_mut.result.now in
           let at : slice_get old p ≡ Some t = slice_get_read old c.args.programmes p t (sym c.loop-r.invariant.each) (let l = w.if-programme-programmes.true in omega arith) w.index_mut.ensures.value in
           let stands : place (list_at written.programme_lists p) r ≡ w.place_of_resident.result =
-          ap (λ z. place (list_at written.programme_lists z) r) c.programme.view_is ∙ sym (w.place_of_resident.ensures ∙ ap (λ (v : Written). place (list_at v.programme_lists c.in-Some.programme) r) c.lists-written.ensures) in
+          ap (λ z. place (list_at written.programme_lists z) r) c.programme.view_is ∙ sym (w.place_of_resident.ensures ∙ ap (λ (v : Written). place (list_at v.programme_lists c.in-Some.programme) r) c.lists-written_lists.ensures) in
           let item : with_member t (place (list_at written.programme_lists p) r) ≡ w.add.new.self = ap (with_member t) stands ∙ sym w.add.ensures in
-          let is : set old p (with_member t (place (list_at written.programme_lists p) r)) ≡ c.if-programme-programmes.takens.items = ap (set old p) item ∙ sym (ap (λ (v : Vec Taken). v.items) w.takens-is) in
+          let is : set old p (with_member t (place (list_at written.programme_lists p) r)) ≡ c.if-programme-programmes.taken_places.items = ap (set old p) item ∙ sym (ap (λ (v : Vec Taken). v.items) w.taken_places-is) in
           record {
             each = ap (λ (ts : List Taken). length ts) (sym is) ∙ length-set old p (with_member t (place (list_at written.programme_lists p) r)) ∙ c.loop-r.invariant.each;
             so_far = subst (AreSoFar written m (r + 1)) is (AreSoFar-more written m r p old t (omega arith) c.loop-r.invariant.so_far at here);
           }
       | else-programme-programmes w ↦
-          let same : old ≡ c.if-programme-programmes.takens.items = sym (ap (λ (v : Vec Taken). v.items) w.takens-is) in
+          let same : old ≡ c.if-programme-programmes.taken_places.items = sym (ap (λ (v : Vec Taken). v.items) w.taken_places-is) in
           record {
             each = ap (λ (ts : List Taken). length ts) (sym same) ∙ c.loop-r.invariant.each;
             so_far = subst (AreSoFar written m (r + 1)) same
@@ -59,4 +59,4 @@ loop-r-preserved c =
     ]
 
 pub returns-clause-taken : goal.returns-clause-taken
-returns-clause-taken c = AreSoFar-all c.args.listed.now.written c.args.sheet.now c.loop-r.r c.loop-r.takens.items (omega arith) c.loop-r.invariant.so_far
+returns-clause-taken c = AreSoFar-all c.args.listed.now.written c.args.sheet.now c.loop-r.r c.loop-r.taken_places.items (omega arith) c.loop-r.invariant.so_far

@@ -23,7 +23,7 @@ loop-r-preserved c =
     λ t e h. subst (λ (z : Taken). IsSoFar xs m p (r + 1) z.members z.last) (sym e) h in
     elim c.if-is_member.branch [
       | then-is_member w ↦
-          let stands = w.place_of_resident.ensures ∙ ap (λ (v : Written). place (list_at v.programme_lists p) r) c.lists-written.ensures in
+          let stands = w.place_of_resident.ensures ∙ ap (λ (v : Written). place (list_at v.programme_lists p) r) c.lists-written_lists.ensures in
           into (with_member c.loop-r.taken (place xs r)) (w.taken-is ∙ w.add.ensures ∙ ap (with_member c.loop-r.taken) stands)
           (IsSoFar-more xs m p r c.loop-r.taken.members c.loop-r.taken.last (omega arith) c.loop-r.invariant (c.is_member.ensures.0 w.if-is_member.true))
       | else-is_member w ↦

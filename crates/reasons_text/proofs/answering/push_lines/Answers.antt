@@ -25,6 +25,6 @@ returns c =
         };
         text_is = refl;
       };
-      appended = text_made names c.args.manner.now.without_ranks c.args.resident own _ _ _ _ _ _ c.place_of-own.ensures c.in_ok-push_first_line.ensures h;
+      appended = text_made names c.args.manner.now.without_ranks c.args.resident own _ _ _ _ _ _ c.place_of-own_programme.ensures c.in_ok-push_first_line.ensures h;
     })
     c.push_each.ensures

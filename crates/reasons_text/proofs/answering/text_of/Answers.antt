@@ -23,5 +23,5 @@ returns-clause-text c =
       asks_keyless = λ none.
           subst (λ (d : Contents). AsksByDocket d c.args.asked told) c.docket-docket.ensures
           (asked_keyless _ c.args.asked told (c.in_ok-key.ensures.none none) c.in_ok-whom.ensures.asks);
-      text_is = c.in_ok-told_text.ensures;
+      text_is = c.in_ok-answer_text.ensures;
     }

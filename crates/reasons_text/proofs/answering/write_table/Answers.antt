@@ -16,8 +16,8 @@ returns g c =
     let added : Adds contents start last (row columns ++ second) =
     adds_both contents start c.push_columns.new.rows last (row columns) second c.in_ok-push_columns.ensures rows.added in
     let told : Writes contents c.args.writer.now c.send.new.self.0 (row columns ++ second) =
-    handed_over contents start last c.args.writer.now c.send.new.self.0 c.in_ok-room.room.items (row columns ++ second)
-    c.new-rows.ensures.1 c.new-rows.ensures.2 c.in_ok-room.ensures.none added c.in_ok-send.ensures in
+    handed_over contents start last c.args.writer.now c.send.new.self.0 c.in_ok-row_buffer.row_buffer.items (row columns ++ second)
+    c.new-rows.ensures.1 c.new-rows.ensures.2 c.in_ok-row_buffer.ensures.none added c.in_ok-send.ensures in
     let same : last.writer.ghost_name ≡ start.writer.ghost_name = added.0 in
     record {
       text = row columns ++ second;

@@ -20,7 +20,7 @@ reason_from-requires-clause-programme c =
 pub loop-place-preserved : goal.loop-place-preserved
 loop-place-preserved c =
     let mine : List ℕ = list_at c.args.lists.now.resident_lists c.args.resident in
-    let case : CaseParts = case_of c.args.docket.now c.args.sheet.now c.args.lists.now c.args.takens.now in
+    let case : CaseParts = case_of c.args.docket.now c.args.sheet.now c.args.lists.now c.args.taken_places.now in
     let p : ℕ = c.in-Some.programme in
     let place : ℕ = c.loop-place.place in
     let reasons : List Why = c.loop-place.reasons.items in
@@ -37,7 +37,7 @@ loop-place-preserved c =
 pub returns-clause-first : goal.returns-clause-first
 returns-clause-first c =
     let mine : List ℕ = list_at c.args.lists.now.resident_lists c.args.resident in
-    let case : CaseParts = case_of c.args.docket.now c.args.sheet.now c.args.lists.now c.args.takens.now in
+    let case : CaseParts = case_of c.args.docket.now c.args.sheet.now c.args.lists.now c.args.taken_places.now in
     let listed : c.loop-place.programmes.items ≡ mine = c.loop-place.invariant.listed ∙ take_all c.loop-place.place mine (omega arith) in
     let many = ap (λ (xs : List ℕ). length xs) listed in
     record {

@@ -7,5 +7,5 @@ abbrev pub invariant-loop-place : goal.invariant-loop-place
 invariant-loop-place l = record {
   listed : l.programmes.items ≡ take l.place (list_at l.lists.resident_lists l.resident);
   each : length l.reasons.items ≡ l.place;
-  first : AreFirst (case_of l.docket l.sheet l.lists l.takens) l.resident (list_at l.lists.resident_lists l.resident) l.reasons.items;
+  first : AreFirst (case_of l.docket l.sheet l.lists l.taken_places) l.resident (list_at l.lists.resident_lists l.resident) l.reasons.items;
 }

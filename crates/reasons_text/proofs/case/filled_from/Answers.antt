@@ -12,7 +12,7 @@ new-listed-requires c =
 
 pub taken_of-requires : goal.taken_of-requires
 taken_of-requires c =
-    subst (λ (w : Written). AreTaken w c.args.sheet.now c.args.takens.now) (sym c.new-listed.ensures.written) c.requires.taken
+    subst (λ (w : Written). AreTaken w c.args.sheet.now c.args.taken_places.now) (sym c.new-listed.ensures.written) c.requires.taken
 
 pub returns : goal.returns
 returns c = c.taken_of.ensures.members

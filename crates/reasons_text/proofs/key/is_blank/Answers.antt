@@ -9,7 +9,7 @@ loop-i-init c = blank_none (fields_of c.args.row.now)
 
 pub loop-i-preserved : goal.loop-i-preserved
 loop-i-preserved c =
-    blank_more (fields_of c.args.row.now) c.loop-i.i c.loop-i.blank c.both_blank-blank.result c.field.result.now c.loop-i.invariant c.field.ensures c.both_blank-blank.ensures
+    blank_more (fields_of c.args.row.now) c.loop-i.i c.loop-i.are_all_blank c.still_blank-are_all_blank.result c.field.result.now c.loop-i.invariant c.field.ensures c.still_blank-are_all_blank.ensures
 
 pub returns : goal.returns
 returns c =

@@ -19,8 +19,8 @@ loop-number-preserved c =
 pub returns : goal.returns
 returns c =
     let past = c.loop-number-test.false in
-    let members = c.named-number-end.ensures.members in
-    let rows = c.named-number-end.ensures.rows in
+    let members = c.named_count-number-end.ensures.members in
+    let rows = c.named_count-number-end.ensures.rows in
     let names = length-map c.args.key.now.names.items string_bytes in
     let slice = ap length c.as_slice.ensures.value in
     all_full c.args.docket.now c.args.side (side_of c.args.key.now) (map string_bytes c.loop-number.labels.items) c.loop-number.number (omega (arith, past, members)) (omega (arith, past, rows, names, slice)) c.loop-number.invariant

@@ -10,5 +10,5 @@ returns c other =
     let old : List ℕ → Option Meant = λ t. get_by (λ own. bytes_eq t own.now) c.args.owners.now in
     let new : List ℕ → Option Meant = λ t. get_by (λ own. bytes_eq t own.now) c.insert.new.self in
     noted_one old new c.args.text.now c.args.number c.owner_with.result
-    (c.owner_with.ensures ∙ ap (λ (o : Meant). owner_with o c.args.number) c.owner-known.ensures)
+    (c.owner_with.ensures ∙ ap (λ (o : Meant). owner_with o c.args.number) c.owner-known_owner.ensures)
     (λ t. c.in_ok-insert.ensures.updates.0 (record c.args.text { now = t })) other

@@ -12,7 +12,7 @@ loop-number-init c text = rw c.with_hasher-owners.ensures.empty (meant_none (is_
 
 pub loop-number-preserved : goal.loop-number-preserved
 loop-number-preserved c text =
-    rw (c.in_ok-note_all.ensures text)
+    rw (c.in_ok-note_member_texts.ensures text)
     (owner_more (is_meant c.args.docket.now c.args.side (side_of c.args.key.now) text) c.loop-number.number (owner_in c.loop-number.owners text) (c.loop-number.invariant text))
 
 pub returns : goal.returns

@@ -9,30 +9,30 @@ no_both one other = search rules
 not_none : {X : Type 0} {x : X} → Some x ≡ None → ⊥
 not_none is = search rules
 
-pub returns-then-is_all-clause-one : goal.returns-then-is_all-clause-one
-returns-then-is_all-clause-one c =
-    λ without. absurd (no_both c.if-is_all.true (c.get_flag-is_all.ensures.other (one_text-rows (found_of c.args.matches.now) (codes "all") ∙ without)))
+pub returns-then-is_about_all_residents-clause-one : goal.returns-then-is_about_all_residents-clause-one
+returns-then-is_about_all_residents-clause-one c =
+    λ without. absurd (no_both c.if-is_about_all_residents.true (c.get_flag-is_about_all_residents.ensures.other (one_text-rows (found_of c.args.matches.now) (codes "all") ∙ without)))
 
-pub returns-else-is_all-clause-none : goal.returns-else-is_all-clause-none
-returns-else-is_all-clause-none c = λ same.
+pub returns-else-is_about_all_residents-clause-none : goal.returns-else-is_about_all_residents-clause-none
+returns-else-is_about_all_residents-clause-none c = λ same.
     let matches = found_of c.args.matches.now in
     let nobody = rw c.in_default.is at c.get_str.ensures in
     record {
-      both = λ with. absurd (no_both (c.get_flag-is_all.ensures.value (one_text-rows matches (codes "all") ∙ with)) c.if-is_all.false);
+      both = λ with. absurd (no_both (c.get_flag-is_about_all_residents.ensures.value (one_text-rows matches (codes "all") ∙ with)) c.if-is_about_all_residents.false);
       neither = λ without. sym (nobody ∙ first_value-rows matches (codes "resident"));
     }
 
-pub returns-then-is_all-2-clause-none : goal.returns-then-is_all-2-clause-none
-returns-then-is_all-2-clause-none c = λ same.
+pub returns-then-is_about_all_residents-2-clause-none : goal.returns-then-is_about_all_residents-2-clause-none
+returns-then-is_about_all_residents-2-clause-none c = λ same.
     let matches = found_of c.args.matches.now in
     record {
       both = λ with none. absurd (not_none (c.in-Some.ensures ∙ (first_value-rows matches (codes "resident") ∙ none)));
-      neither = λ without. absurd (no_both c.if-is_all-2.true (c.get_flag-is_all.ensures.other (one_text-rows matches (codes "all") ∙ without)));
+      neither = λ without. absurd (no_both c.if-is_about_all_residents-2.true (c.get_flag-is_about_all_residents.ensures.other (one_text-rows matches (codes "all") ∙ without)));
     }
 
 pub returns-in-Some-get_str-clause-all : goal.returns-in-Some-get_str-clause-all
 returns-in-Some-get_str-clause-all c =
-    λ with. absurd (no_both (c.get_flag-is_all.ensures.value (one_text-rows (found_of c.args.matches.now) (codes "all") ∙ with)) c.if-is_all-2.false)
+    λ with. absurd (no_both (c.get_flag-is_about_all_residents.ensures.value (one_text-rows (found_of c.args.matches.now) (codes "all") ∙ with)) c.if-is_about_all_residents-2.false)
 
 pub returns-in-Some-get_str-clause-one : goal.returns-in-Some-get_str-clause-one
 returns-in-Some-get_str-clause-one c = λ without.
@@ -43,7 +43,7 @@ returns-in-Some-get_str-clause-one c = λ without.
 
 pub returns-in-None-clause-all : goal.returns-in-None-clause-all
 returns-in-None-clause-all c =
-    λ with. absurd (no_both (c.get_flag-is_all.ensures.value (one_text-rows (found_of c.args.matches.now) (codes "all") ∙ with)) c.if-is_all-2.false)
+    λ with. absurd (no_both (c.get_flag-is_about_all_residents.ensures.value (one_text-rows (found_of c.args.matches.now) (codes "all") ∙ with)) c.if-is_about_all_residents-2.false)
 
 pub returns-in-None-clause-one : goal.returns-in-None-clause-one
 returns-in-None-clause-one c = λ without.

@@ -4,4 +4,4 @@ use Rattle.reasons_text.proofs.sentences.sentence.Goals as goal
 
 pub returns-in-PrefersOwn : goal.returns-in-PrefersOwn
 unfolding sentence
-returns-in-PrefersOwn c = rw (c.in-PrefersOwn.is, sym c.programme-own.ensures) c.format-in-PrefersOwn.ensures.ok
+returns-in-PrefersOwn c = rw (c.in-PrefersOwn.is, sym c.programme-own_name.ensures) c.format-in-PrefersOwn.ensures.ok

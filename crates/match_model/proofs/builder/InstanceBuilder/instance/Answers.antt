@@ -46,33 +46,33 @@ many_rows ms fs ts gs rows e = ap (λ (v : RowLists ℕ). length v.rows) e ∙ m
 
 pub mutual_in_turn-requires-clause-few : goal.mutual_in_turn-requires-clause-few
 mutual_in_turn-requires-clause-few c =
-    let many = many_rows _ _ _ _ c.in_ok-programmes.programmes c.in_ok-programmes.ensures.lists in
+    let many = many_rows _ _ _ _ c.in_ok-programme_rows.programme_rows c.in_ok-programme_rows.ensures.lists in
     let each = c.self.invariant.one_list_each in
     omega (arith, many, each, c.self.invariant.programmes_within, programmes_bounded c.self.inside.limits)
 
 pub mutual_in_turn-requires-clause-lists : goal.mutual_in_turn-requires-clause-lists
 mutual_in_turn-requires-clause-lists c =
-    let many = many_rows _ _ _ _ c.in_ok-programmes.programmes c.in_ok-programmes.ensures.lists in
+    let many = many_rows _ _ _ _ c.in_ok-programme_rows.programme_rows c.in_ok-programme_rows.ensures.lists in
     subst (AreLists c.self.inside.resident_lists) (sym (many ∙ c.self.invariant.one_list_each)) c.self.invariant.resident_lists
 
 pub mutual_in_turn-requires-clause-below : goal.mutual_in_turn-requires-clause-below
 mutual_in_turn-requires-clause-below c =
-    let rows = ap (λ (v : RowLists ℕ). v.rows) c.in_ok-programmes.ensures.lists in
+    let rows = ap (λ (v : RowLists ℕ). v.rows) c.in_ok-programme_rows.ensures.lists in
     let n : ℕ = length c.self.inside.resident_lists in
     subst (All (λ list. list_all (λ x. ltb x n) list ≡ true)) (sym rows)
     (mutual_below (lists_left c.self.inside.programme_lists c.deref.result.now) (lists_left c.self.inside.resident_lists c.deref-2.result.now) n (left_below c.self.inside.programme_lists c.deref.result.now n c.self.invariant.programme_lists))
 
 pub mutual_in_turn-requires-clause-distinct : goal.mutual_in_turn-requires-clause-distinct
 mutual_in_turn-requires-clause-distinct c =
-    let rows = ap (λ (v : RowLists ℕ). v.rows) c.in_ok-programmes.ensures.lists in
+    let rows = ap (λ (v : RowLists ℕ). v.rows) c.in_ok-programme_rows.ensures.lists in
     let n : ℕ = length c.self.inside.resident_lists in
     subst (All (λ list. has_no_repeats list ≡ true)) (sym rows)
     (mutual_distinct (lists_left c.self.inside.programme_lists c.deref.result.now) (lists_left c.self.inside.resident_lists c.deref-2.result.now) (left_distinct c.self.inside.programme_lists c.deref.result.now n c.self.invariant.programme_lists))
 
 pub invariant_of-result : goal.invariant_of-result
 invariant_of-result c =
-    let programmes = programmes_made c.in_ok-programmes.programmes _ _ _ _ _ _ c.in_ok-programmes.ensures.lists c.deref.ensures.value c.deref-2.ensures.value in
-    let residents = residents_made c.in_ok-residents.residents c.in_ok-programmes.programmes _ _ _ _ _ programmes c.in_ok-residents.ensures.lists c.deref-3.ensures.value in
+    let programmes = programmes_made c.in_ok-programme_rows.programme_rows _ _ _ _ _ _ c.in_ok-programme_rows.ensures.lists c.deref.ensures.value c.deref-2.ensures.value in
+    let residents = residents_made c.in_ok-resident_rows.resident_rows c.in_ok-programme_rows.programme_rows _ _ _ _ _ programmes c.in_ok-resident_rows.ensures.lists c.deref-3.ensures.value in
     let made_rs = ap (λ (v : RowLists ℕ). v.rows) c.in_ok-into_programmes.ensures in
     let ps = ap (λ (v : RowLists ℕ). v.rows) c.in_ok-into_residents.ensures ∙ programmes in
     let rs = made_rs ∙ residents in
@@ -80,30 +80,30 @@ invariant_of-result c =
     let d : Draft = record { limits = c.self.inside.limits; quotas = c.self.inside.quotas.items; programme_lists = c.self.inside.programme_lists; resident_lists = c.self.inside.resident_lists; programmes_withdrawn = c.self.inside.programmes_withdrawn.items; residents_withdrawn = c.self.inside.residents_withdrawn.items } in
     let same = same_mutual _ _ _ _ _ _ c.deref.ensures.value c.deref-2.ensures.value in
     let made : sum_by (length {A = ℕ}) (mutual_left _ _ _ _) ≡ pair_count (instance_of d) = ap (sum_by (length {A = ℕ})) same in
-    let few : pair_count (instance_of d) ≤ MAX_PAIRS = (let most = ltb-false c.pairs.result _ c.in_ok-programmes.ensures.within in omega (arith, most, made, c.pairs.ensures.within)) in
-    let all = ap (λ (v : RowLists ℕ). sum_by (length {A = ℕ}) v.rows + length v.begun) c.in_ok-programmes.ensures.lists in
+    let few : pair_count (instance_of d) ≤ MAX_PAIRS = (let most = ltb-false c.pairs.result _ c.in_ok-programme_rows.ensures.within in omega (arith, most, made, c.pairs.ensures.within)) in
+    let all = ap (λ (v : RowLists ℕ). sum_by (length {A = ℕ}) v.rows + length v.begun) c.in_ok-programme_rows.ensures.lists in
     let counted : c.item_count-pairs.result ≡ pair_count (instance_of d) = omega (arith, c.item_count-pairs.ensures, all, made) in
     record {
       rankings = subst (λ (inst : Instance). IsWellFormed inst c.item_count-pairs.result) (sym parts) (IsWellFormed-instance_of d c.item_count-pairs.result c.self.invariant few counted);
-      choices = subst (λ (lists : List (List ℕ)). AreChoices lists c.in_ok-residents.choices.rows.rows) (sym made_rs) c.in_ok-residents.ensures.choices;
+      choices = subst (λ (lists : List (List ℕ)). AreChoices lists c.in_ok-resident_rows.choices.rows.rows) (sym made_rs) c.in_ok-resident_rows.ensures.choices;
     }
 
 pub returns-clause-made : goal.returns-clause-made
 returns-clause-made c =
-    let programmes = programmes_made c.in_ok-programmes.programmes _ _ _ _ _ _ c.in_ok-programmes.ensures.lists c.deref.ensures.value c.deref-2.ensures.value in
-    let residents = residents_made c.in_ok-residents.residents c.in_ok-programmes.programmes _ _ _ _ _ programmes c.in_ok-residents.ensures.lists c.deref-3.ensures.value in
+    let programmes = programmes_made c.in_ok-programme_rows.programme_rows _ _ _ _ _ _ c.in_ok-programme_rows.ensures.lists c.deref.ensures.value c.deref-2.ensures.value in
+    let residents = residents_made c.in_ok-resident_rows.resident_rows c.in_ok-programme_rows.programme_rows _ _ _ _ _ programmes c.in_ok-resident_rows.ensures.lists c.deref-3.ensures.value in
     let ps = ap (λ (v : RowLists ℕ). v.rows) c.in_ok-into_residents.ensures ∙ programmes in
     let rs = ap (λ (v : RowLists ℕ). v.rows) c.in_ok-into_programmes.ensures ∙ residents in
     let parts = same_instance _ _ _ _ _ _ _ _ _ _ (c.in_ok-from_slice.ensures.items ∙ c.deref-4.ensures.value) ps rs (c.in_ok-from_slice-2.ensures.items ∙ c.deref-5.ensures.value) (c.in_ok-from_slice-3.ensures.items ∙ c.deref-6.ensures.value) in
     rw (← c.self.view_is) parts
 
-pub returns-in_err-programmes-clause-cause : goal.returns-in_err-programmes-clause-cause
-returns-in_err-programmes-clause-cause c =
-    let e : ModelFault = c.in_err-programmes.field-0.0 in
+pub returns-in_err-programme_rows-clause-cause : goal.returns-in_err-programme_rows-clause-cause
+returns-in_err-programme_rows-clause-cause c =
+    let e : ModelFault = c.in_err-programme_rows.field-0.0 in
     let same = same_mutual _ _ _ _ _ _ c.deref.ensures.value c.deref-2.ensures.value in
     let pairs = ap (sum_by (length {A = ℕ})) same ∙ ap (λ (d : Draft). pair_count (instance_of d)) c.self.view_is in
     let most = c.pairs.ensures.number ∙ ap (λ (d : Draft). most_pairs d.limits) c.self.view_is in
-    let over = subst (λ (n : ℕ). (e ≡ Memory) ⊎ ((e ≡ TooManyPairs) × (c.pairs.result < n))) pairs (fault_of_most c.pairs.result _ e c.in_err-programmes.ensures.cause) in
+    let over = subst (λ (n : ℕ). (e ≡ Memory) ⊎ ((e ≡ TooManyPairs) × (c.pairs.result < n))) pairs (fault_of_most c.pairs.result _ e c.in_err-programme_rows.ensures.cause) in
     let cause = subst (λ (m : ℕ). (e ≡ Memory) ⊎ ((e ≡ TooManyPairs) × (m < pair_count (instance_of c.args.self.now)))) most over in
     same_err c.from_residual.result e (IsFinishFault c.args.self.now) c.from_residual.ensures.1 cause
 
@@ -115,5 +115,5 @@ returns-clause-within c =
     let d : Draft = record { limits = c.self.inside.limits; quotas = c.self.inside.quotas.items; programme_lists = c.self.inside.programme_lists; resident_lists = c.self.inside.resident_lists; programmes_withdrawn = c.self.inside.programmes_withdrawn.items; residents_withdrawn = c.self.inside.residents_withdrawn.items } in
     let same = same_mutual _ _ _ _ _ _ c.deref.ensures.value c.deref-2.ensures.value in
     let made : sum_by (length {A = ℕ}) (mutual_left _ _ _ _) ≡ pair_count (instance_of d) = ap (sum_by (length {A = ℕ})) same in
-    let few : pair_count (instance_of d) ≤ most_pairs d.limits = (let most = ltb-false c.pairs.result _ c.in_ok-programmes.ensures.within in omega (arith, most, made, c.pairs.ensures.number)) in
+    let few : pair_count (instance_of d) ≤ most_pairs d.limits = (let most = ltb-false c.pairs.result _ c.in_ok-programme_rows.ensures.within in omega (arith, most, made, c.pairs.ensures.number)) in
     subst (λ (b : Draft). IsWithin b.limits (instance_of b)) c.self.view_is (IsWithin-instance_of d c.self.invariant few)

@@ -6,8 +6,8 @@ use Rattle.match_model.proofs.builder.InstanceBuilder.resident_list.Goals as goa
 
 pub invariant_of-self-2 : goal.invariant_of-self-2
 invariant_of-self-2 c =
-    let n_is : c.len-others.result ≡ length c.self.inside.quotas.items = omega arith in
-    let fault : items_fault c.len-others.result c.args.programmes.now ≡ None = c.in_ok-give_programmes.ensures.first_fault in
-    let fine = no_items_fault c.len-others.result c.args.programmes.now fault in
+    let n_is : c.len-programme_count.result ≡ length c.self.inside.quotas.items = omega arith in
+    let fault : items_fault c.len-programme_count.result c.args.programmes.now ≡ None = c.in_ok-give_programmes.ensures.first_fault in
+    let fine = no_items_fault c.len-programme_count.result c.args.programmes.now fault in
     rw c.in_ok-give_programmes.ensures.given (IsDraft-with_resident_list _ c.resident.inside.0 c.args.programmes.now c.self.invariant
     (subst (λ (n : ℕ). list_all (λ x. ltb x n) c.args.programmes.now ≡ true) n_is fine.0) fine.1)

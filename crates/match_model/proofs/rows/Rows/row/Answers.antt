@@ -22,10 +22,10 @@ part-requires-clause-order g c =
     let ends : List ℕ = c.self.inside.ends.items in
     let rows = ap (λ (v : RowLists _). length v.rows) c.self.view_is in
     let many = length-parted 0 ends c.self.inside.items.items in
-    let here : c.args.place < length ends = omega (arith, c.requires, rows, many) in
-    let at = ends_at 0 ends (length c.self.inside.items.items) c.args.place c.self.invariant here in
-    let start : c.start_of-start.result ≡ get_or (0 ∷ ends) c.args.place 0 = c.start_of-start.ensures ∙ ap (λ (es : List ℕ). get_or (0 ∷ es) c.args.place 0) c.deref.ensures.value in
-    let end : c.index.result.now ≡ get_or ends c.args.place 0 = c.index.ensures ∙ sym (get_or_default ends c.args.place 0 c.index.result.now here) in
+    let here : c.args.row_number < length ends = omega (arith, c.requires, rows, many) in
+    let at = ends_at 0 ends (length c.self.inside.items.items) c.args.row_number c.self.invariant here in
+    let start : c.start_of-start.result ≡ get_or (0 ∷ ends) c.args.row_number 0 = c.start_of-start.ensures ∙ ap (λ (es : List ℕ). get_or (0 ∷ es) c.args.row_number 0) c.deref.ensures.value in
+    let end : c.index.result.now ≡ get_or ends c.args.row_number 0 = c.index.ensures ∙ sym (get_or_default ends c.args.row_number 0 c.index.result.now here) in
     omega (arith, at.0, start, end)
 
 pub part-requires-clause-within : goal.part-requires-clause-within
@@ -33,9 +33,9 @@ part-requires-clause-within g c =
     let ends : List ℕ = c.self.inside.ends.items in
     let rows = ap (λ (v : RowLists _). length v.rows) c.self.view_is in
     let many = length-parted 0 ends c.self.inside.items.items in
-    let here : c.args.place < length ends = omega (arith, c.requires, rows, many) in
-    let at = ends_at 0 ends (length c.self.inside.items.items) c.args.place c.self.invariant here in
-    let end : c.index.result.now ≡ get_or ends c.args.place 0 = c.index.ensures ∙ sym (get_or_default ends c.args.place 0 c.index.result.now here) in
+    let here : c.args.row_number < length ends = omega (arith, c.requires, rows, many) in
+    let at = ends_at 0 ends (length c.self.inside.items.items) c.args.row_number c.self.invariant here in
+    let end : c.index.result.now ≡ get_or ends c.args.row_number 0 = c.index.ensures ∙ sym (get_or_default ends c.args.row_number 0 c.index.result.now here) in
     let all = ap length c.deref-2.ensures.value in
     omega (arith, at.1, end, all)
 
@@ -43,7 +43,7 @@ pub returns : goal.returns
 returns g c =
     let ends : List ℕ = c.self.inside.ends.items in
     let items = c.self.inside.items.items in
-    let place : ℕ = c.args.place in
+    let place : ℕ = c.args.row_number in
     let rows = ap (λ (v : RowLists _). length v.rows) c.self.view_is in
     let many = length-parted 0 ends items in
     let here : place < length ends = omega (arith, c.requires, rows, many) in

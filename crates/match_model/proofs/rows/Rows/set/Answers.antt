@@ -25,8 +25,8 @@ at_is ends n i k s h l w e =
     let before = end_before 0 ends n i h l in
     (omega (arith, before, w, e), omega (arith, at.1, w, e))
 
-pub overflow_add-at : goal.overflow_add-at
-overflow_add-at g c =
+pub overflow_add-item_index : goal.overflow_add-item_index
+overflow_add-item_index g c =
     let ends : List ℕ = c.self.inside.ends.items in
     let w = within c.args.self.now ends c.self.inside.items.items c.args.row c.args.place (ap (λ (v : RowLists _). v.rows) c.self.view_is) c.requires in
     let start : c.start_of.result ≡ get_or (0 ∷ ends) c.args.row 0 = c.start_of.ensures ∙ ap (λ (es : List ℕ). get_or (0 ∷ es) c.args.row 0) c.deref.ensures.value in

@@ -18,6 +18,6 @@ invariant_of-result c =
       has_sheet = sym has ∙ ap Some (sym sheet);
       limits = c.requires.limits;
       read = c.requires.read;
-      taken = subst (λ (m : List (Option ℕ)). AreTaken c.args.lists m c.in_ok-takens.takens.items) (sym sheet)
-          (subst (λ (w : Written). AreTaken w c.in-Some.sheet.now c.in_ok-takens.takens.items) c.new-listed.ensures.written c.in_ok-takens.ensures.taken);
+      taken = subst (λ (m : List (Option ℕ)). AreTaken c.args.lists m c.in_ok-taken_places.taken_places.items) (sym sheet)
+          (subst (λ (w : Written). AreTaken w c.in-Some.sheet.now c.in_ok-taken_places.taken_places.items) c.new-listed.ensures.written c.in_ok-taken_places.ensures.taken);
     }

@@ -9,8 +9,8 @@ loop-number-init c = meant_none (means (naming_of c.args.self.now) c.args.side c
 pub returns : goal.returns
 returns c =
     let past = c.loop-number-test.false in
-    let members = c.named-number-end.ensures.members in
-    let rows = c.named-number-end.ensures.rows in
+    let members = c.named_count-number-end.ensures.members in
+    let rows = c.named_count-number-end.ensures.rows in
     record {
       named = c.loop-number.number;
       all = λ k met. meant_within (naming_of c.args.self.now).docket c.args.side (names_in (naming_of c.args.self.now) c.args.side) c.args.text.now c.loop-number.number k (omega (arith, past, members)) (omega (arith, past, rows)) met;

@@ -1,6 +1,6 @@
 use Rattle.std.proofs.Common.{inr, rules}
 use Rattle.program_shell.proofs.OfAnswers.{answered}
-use Rattle.reasons_text.proofs.program.serve_beside.Goals as goal
+use Rattle.reasons_text.proofs.program.serve_with_sheet_file.Goals as goal
 
 pub returns : goal.returns
 returns g c = inr (record {

@@ -1,4 +1,4 @@
-use Rattle.reasons_text.proofs.answering.told_text.Goals as goal
+use Rattle.reasons_text.proofs.answering.answer_text.Goals as goal
 
 pub returns-in-All : goal.returns-in-All
 returns-in-All c = rw c.in-All.is c.table_of.ensures

@@ -5,7 +5,7 @@ use Rattle.csv.specs.Records.{fields_of}
 use Rattle.records.specs.Reading.{Fields}
 use Rattle.reasons_text.specs.Naming.{both_of}
 use Rattle.reasons_text.proofs.RealFacts.{has_all, has_fault, has_more, has_none, rows_before, rows_to}
-use Rattle.reasons_text.proofs.real_names.named.Goals as goal
+use Rattle.reasons_text.proofs.real_names.names_in_rows.Goals as goal
 
 pub loop-k-init : goal.loop-k-init
 loop-k-init c = has_none c.args.docket.now (both_of c.in_ok-key.key) _ c.in_ok-key.ensures c.in_ok-names.ensures

@@ -1,9 +1,0 @@
-use Rattle.std.proofs.Common.{inr}
-use Rattle.reasons_text.specs.Naming.{naming_of}
-use Rattle.reasons_text.proofs.WhomFacts.{two_meant}
-use Rattle.reasons_text.proofs.answering.named.Goals as goal
-
-pub returns-in_ok-several-in-Several-clause-fault : goal.returns-in_ok-several-in-Several-clause-fault
-returns-in_ok-several-in-Several-clause-fault c =
-    let meant = rw c.in-Several.is at c.in_ok-number.ensures in
-    inr (inr (c.in_ok-several-in-Several.ensures, two_meant (naming_of c.args.names.now) c.args.side c.args.name.now meant))
