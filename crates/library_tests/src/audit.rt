@@ -86,7 +86,7 @@ fn finds(
     }
 }
 
-const AUDITED: [(Members, &[Option<u32>], Findings); 4] = [
+const AUDITED_SHEETS: [(Members, &[Option<u32>], Findings); 4] = [
     (
         (&[(2, &[0, 1])], &[&[0], &[0]]),
         &[Some(0), None],
@@ -99,7 +99,7 @@ const AUDITED: [(Members, &[Option<u32>], Findings); 4] = [
 
 #[test]
 fn audits_sheets(rt: HostRuntime) -> Result<(), Fail> {
-    for (members, places, findings) in AUDITED {
+    for (members, places, findings) in AUDITED_SHEETS {
         assert!(rt; finds(rt.alloc(), members, places, findings)?);
     }
     Ok(())
@@ -219,7 +219,7 @@ fn chosen_events(
     Ok(chosen)
 }
 
-const FORGED: [(&[usize], Result<usize, ReplayFault>); 6] = [
+const FORGED_LISTS: [(&[usize], Result<usize, ReplayFault>); 6] = [
     // the answer is not heard
     (
         &[0, 1, 2, 3, 4, 5, 6, 8],
@@ -260,7 +260,7 @@ const FORGED: [(&[usize], Result<usize, ReplayFault>); 6] = [
 fn sees_forged_lists(rt: HostRuntime) -> Result<(), Fail> {
     let alloc = rt.alloc();
     let good_events = nine_events();
-    for (indices, wanted) in FORGED {
+    for (indices, wanted) in FORGED_LISTS {
         let events = chosen_events(alloc, &good_events, indices)?;
         let replay_result = events_replayed(alloc, TWO_BY_TWO, Capacity::Full, events.as_slice());
         assert!(rt; replay_result == wanted, "{wanted:?}");
@@ -291,7 +291,7 @@ fn events_checked(
     }
 }
 
-const CHECKED: [(&[Option<u32>], Result<usize, ReplayFault>); 5] = [
+const CHECKED_SHEETS: [(&[Option<u32>], Result<usize, ReplayFault>); 5] = [
     (&[Some(0), Some(1)], Ok(9)),
     (&[Some(1), Some(0)], Err(ReplayFault::SheetDiffers(X))),
     (&[Some(0), None], Err(ReplayFault::SheetDiffers(Y))),
@@ -302,7 +302,7 @@ const CHECKED: [(&[Option<u32>], Result<usize, ReplayFault>); 5] = [
 #[test]
 fn checks_sheets(rt: HostRuntime) {
     let events = nine_events();
-    for (places, wanted) in CHECKED {
+    for (places, wanted) in CHECKED_SHEETS {
         let check_result = events_checked(rt.alloc(), TWO_BY_TWO, &events, places);
         assert!(rt; check_result == wanted, "{wanted:?}");
     }

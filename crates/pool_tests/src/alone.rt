@@ -71,7 +71,7 @@ fn what_a_visit_woke_comes_before_any_programme(rt: HostRuntime) -> Result<(), F
 // Markets whose mailboxes have room for one message. In each a programme waits for room in a resident's mailbox,
 // while an answer of another resident waits for the programme. When there is room, the programme is called: it
 // offers first, and then hears that answer.
-const CALLED: [(Members, Event, Event); 3] = [
+const CALLED_MARKETS: [(Members, Event, Event); 3] = [
     (
         (
             &[(2, &[0, 1]), (2, &[1, 0]), (3, &[1, 0]), (2, &[1, 0])],
@@ -138,7 +138,7 @@ fn is_followed(journal: &[Event], event_before: &Event, event_after: &Event) -> 
 
 #[test]
 fn a_called_programme_offers_first_and_hears_then(rt: HostRuntime) -> Result<(), Fail> {
-    for (members, offer_event, hear_event) in CALLED {
+    for (members, offer_event, hear_event) in CALLED_MARKETS {
         let outcome = ran(rt, rt.alloc(), members, Capacity::Each(1), 1, &OpenGate)?;
         assert!(rt;
             is_followed(&outcome.journal, &offer_event, &hear_event),
@@ -148,9 +148,9 @@ fn a_called_programme_offers_first_and_hears_then(rt: HostRuntime) -> Result<(),
     Ok(())
 }
 
-// Markets as in `CALLED`, but another programme uses the room before the called programme comes. The called programme
+// Markets as in `CALLED_MARKETS`, but another programme uses the room before the called programme comes. The called programme
 // waits on, and hears the answer.
-const REFUSED_AGAIN: [(Members, Event, Event); 2] = [
+const REFUSED_AGAIN_MARKETS: [(Members, Event, Event); 2] = [
     (
         (
             &[
@@ -203,7 +203,7 @@ const REFUSED_AGAIN: [(Members, Event, Event); 2] = [
 
 #[test]
 fn a_called_programme_that_is_refused_hears(rt: HostRuntime) -> Result<(), Fail> {
-    for (members, event_before, hear_event) in REFUSED_AGAIN {
+    for (members, event_before, hear_event) in REFUSED_AGAIN_MARKETS {
         let outcome = ran(rt, rt.alloc(), members, Capacity::Each(1), 1, &OpenGate)?;
         assert!(rt;
             is_followed(&outcome.journal, &event_before, &hear_event),

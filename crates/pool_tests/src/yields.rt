@@ -40,7 +40,7 @@ struct Yields<R: Wait + Copy> {
 
 impl<R: Wait + Copy> Yields<R> {
     // The number of earlier calls decides, as a seed, what the worker does at this call.
-    fn turn(&self) {
+    fn yield_or_park(&self) {
         let mut random_state = self.earlier_calls.fetch_add(1, Ordering::SeqCst);
         match drawn_number(&mut random_state) {
             0 => {
@@ -59,12 +59,12 @@ impl<R: Wait + Copy + Sync> Gate for Yields<R> {
     const MAY_STOP: bool = false;
 
     fn pass(&self, _worker: usize, _desk: Desk) -> Go {
-        self.turn();
+        self.yield_or_park();
         Go::On
     }
 
     fn entered(&self, _worker: usize) {
-        self.turn();
+        self.yield_or_park();
     }
 }
 

@@ -47,7 +47,7 @@ fn audits(rt: HostRuntime) -> Result<(), Fail> {
 }
 
 // Sheets that were made before a member withdrew, each with its report.
-const AUDITS: [(&[&str], Status, &str, u8); 4] = [
+const OLD_SHEET_AUDITS: [(&[&str], Status, &str, u8); 4] = [
     (
         &[VERSION_2, SMALL_DOCKET, "W,R,x\n", SMALL_SHEET],
         Status::Unstable,
@@ -87,7 +87,7 @@ const AUDITS: [(&[&str], Status, &str, u8); 4] = [
 
 #[test]
 fn audits_of_old_sheets(rt: HostRuntime) -> Result<(), Fail> {
-    for (texts, status, report, exit_code) in AUDITS {
+    for (texts, status, report, exit_code) in OLD_SHEET_AUDITS {
         let expected = (Ok(status), report, exit_code);
         assert!(rt;
             serves(rt, rt.alloc(), Order::Audit, texts, expected)?,

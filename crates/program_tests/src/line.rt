@@ -42,13 +42,13 @@ fn tells_faults(rt: HostRuntime) -> Result<(), Fail> {
     Ok(())
 }
 
-const MATCH_BY_ONE: Order = Order::Match(MatchOptions {
+const MATCH_BY_ONE_WORKER: Order = Order::Match(MatchOptions {
     workers: 1,
     capacity: Capacity::Full,
     journal: JournalForm::Absent,
 });
 
-const MATCH_WITH_WORKERS: Order = Order::Match(MatchOptions {
+const MATCH_WITH_WORKER_JOURNAL: Order = Order::Match(MatchOptions {
     workers: 2,
     capacity: Capacity::Full,
     journal: JournalForm::ByWorker,
@@ -63,7 +63,7 @@ fn order_of(alloc: Global, words: &[&str]) -> Result<Order, u8> {
 }
 
 // Command lines, with what they ask the program to do, or with the exit status of their fault.
-const LINES: [(&[&str], Result<Order, u8>); 21] = [
+const COMMAND_LINES: [(&[&str], Result<Order, u8>); 21] = [
     (&["match"], Ok(MATCH)),
     (&["match", "--workers", "2"], Ok(MATCH)),
     (
@@ -72,17 +72,20 @@ const LINES: [(&[&str], Result<Order, u8>); 21] = [
     ),
     (&["match", "--capacity", "0"], Err(2)),
     (&["match", "--capacity", "1025"], Err(2)),
-    (&["match", "--workers", "1"], Ok(MATCH_BY_ONE)),
-    (&["match", "--workers", "+1"], Ok(MATCH_BY_ONE)),
+    (&["match", "--workers", "1"], Ok(MATCH_BY_ONE_WORKER)),
+    (&["match", "--workers", "+1"], Ok(MATCH_BY_ONE_WORKER)),
     (&["match", "--workers", "0"], Err(2)),
-    (&["match", "--journal-by-worker"], Ok(MATCH_WITH_WORKERS)),
+    (
+        &["match", "--journal-by-worker"],
+        Ok(MATCH_WITH_WORKER_JOURNAL),
+    ),
     (
         &["match", "--journal", "--journal-by-worker"],
-        Ok(MATCH_WITH_WORKERS),
+        Ok(MATCH_WITH_WORKER_JOURNAL),
     ),
     (
         &["match", "--journal-by-worker", "--journal"],
-        Ok(MATCH_WITH_WORKERS),
+        Ok(MATCH_WITH_WORKER_JOURNAL),
     ),
     (&["match", "--help"], Err(0)),
     (&["audit"], Ok(Order::Audit)),
@@ -99,7 +102,7 @@ const LINES: [(&[&str], Result<Order, u8>); 21] = [
 #[test]
 fn reads_lines(rt: HostRuntime) {
     assert!(rt; MATCH == Order::Match(MatchOptions::default()));
-    for (words, wanted) in LINES {
+    for (words, wanted) in COMMAND_LINES {
         assert!(rt; order_of(rt.alloc(), words) == wanted, "{words:?}");
     }
 }

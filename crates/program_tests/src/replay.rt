@@ -57,7 +57,7 @@ fn replays_good_journals(rt: HostRuntime) -> Result<(), Fail> {
 }
 
 // Journals that a replay refuses, each with the row of the fault.
-const REFUSED: [(&[&str], &str); 15] = [
+const REFUSED_JOURNALS: [(&[&str], &str); 15] = [
     (
         &[QUOTAS_DOCKET, FULL_CAPACITY, "E,take,x,a\n"],
         "N,1,nothing-waiting\n",
@@ -160,7 +160,7 @@ const REFUSED: [(&[&str], &str); 15] = [
 
 #[test]
 fn replays_bad_journals(rt: HostRuntime) -> Result<(), Fail> {
-    for (texts, row) in REFUSED {
+    for (texts, row) in REFUSED_JOURNALS {
         let expected = (Ok(Status::ReplayBad), row, 4);
         assert!(rt;
             serves_both(rt, rt.alloc(), Order::Replay, texts, expected)?,
@@ -194,7 +194,7 @@ fn journal_of(alloc: Global, event_indices: &[usize]) -> Result<String, AllocErr
 
 // For each journal made of some of the nine events of the small docket's journal, by their indices: what its
 // replay answers.
-const FORGED: [(&[usize], Status, &str, u8); 7] = [
+const FORGED_JOURNALS: [(&[usize], Status, &str, u8); 7] = [
     (&[0, 1, 2, 3, 4, 5, 6, 7, 8], Status::ReplayGood, "G,9\n", 0),
     (
         &[0, 1, 2, 3, 4, 5, 6, 8],
@@ -226,7 +226,7 @@ const FORGED: [(&[usize], Status, &str, u8); 7] = [
 
 #[test]
 fn sees_forged_journals(rt: HostRuntime) -> Result<(), Fail> {
-    for (event_indices, status, row, exit_code) in FORGED {
+    for (event_indices, status, row, exit_code) in FORGED_JOURNALS {
         let journal = journal_of(rt.alloc(), event_indices)?;
         let texts = [SMALL_DOCKET, journal.as_str()];
         let expected = (Ok(status), row, exit_code);
@@ -324,7 +324,7 @@ fn refuses_wrong_workers(rt: HostRuntime) -> Result<(), Fail> {
 
 // Journals that were made before a member withdrew. The first offer by or to the withdrawn member is then no
 // programme's next offer.
-const REPLAYS: [(&[&str], Status, &str, u8); 3] = [
+const OLD_JOURNAL_REPLAYS: [(&[&str], Status, &str, u8); 3] = [
     (
         &[
             VERSION_2,
@@ -370,7 +370,7 @@ const REPLAYS: [(&[&str], Status, &str, u8); 3] = [
 
 #[test]
 fn replays_of_old_journals(rt: HostRuntime) -> Result<(), Fail> {
-    for (texts, status, row, exit_code) in REPLAYS {
+    for (texts, status, row, exit_code) in OLD_JOURNAL_REPLAYS {
         let expected = (Ok(status), row, exit_code);
         assert!(rt;
             serves(rt, rt.alloc(), Order::Replay, texts, expected)?,

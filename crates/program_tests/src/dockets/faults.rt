@@ -3,13 +3,13 @@ use super::{first_wrong_line, first_wrong_line_of_version_2, has_outcome};
 use docket::DocketFault;
 use std::test::Fail;
 
-const KINDS: &str = "\
+const KIND_FAULTS: &str = "\
 Z,a = record 1: unknown kind of row
 q,a,1 = record 1: unknown kind of row
 QQ,a,1 = record 1: unknown kind of row
 ,a,1 = record 1: unknown kind of row";
 
-const COUNTS: &str = "\
+const FIELD_COUNT_FAULTS: &str = "\
 Q = record 1: wrong number of fields
 Q,a = record 1: wrong number of fields
 Q,a,1,1 = record 1: wrong number of fields
@@ -34,7 +34,7 @@ E,hear,a,x = record 1: wrong number of fields
 E,hear,a,x,hold,hold = record 1: wrong number of fields
 E,close,a = record 1: wrong number of fields";
 
-const NAMES: &str = "\
+const NAME_FAULTS: &str = "\
 Q,,1 = record 1: bad name
 Q,a/b,1 = record 1: bad name
 Q,abcdefghijklmnopqrstuvwxyz012345,1 = read
@@ -53,7 +53,7 @@ E,take,x, = record 1: bad name
 E,answer,x,,hold = record 1: bad name
 E,hear,,x,hold = record 1: bad name";
 
-const NUMBERS_AND_WORDS: &str = "\
+const NUMBER_AND_WORD_FAULTS: &str = "\
 Q,a, = record 1: bad quota
 Q,a,x = record 1: bad quota
 Q,a,-1 = record 1: bad quota
@@ -71,7 +71,7 @@ E, = record 1: bad journal row
 C,full E,answer,x,a,keep = record 2: bad journal row
 C,full E,hear,a,x, = record 2: bad journal row";
 
-const WORKERS: &str = "\
+const WORKER_FAULTS: &str = "\
 C,full,8 = read
 C,1,008 = read
 C,full,0 = record 1: bad journal row
@@ -98,7 +98,7 @@ C,full E,close,0 = record 2: wrong number of fields
 E,close,0 C,full,2 = record 1: wrong number of fields
 E,close C,full,2 = record 1: bad journal row";
 
-const ROWS_BEFORE: &str = "\
+const EARLIER_ROW_FAULTS: &str = "\
 E,close = record 1: bad journal row
 C,1 C,1 = record 2: bad journal row
 C,1024 E,close E,close C,1 = record 4: bad journal row
@@ -110,7 +110,7 @@ Q,a,1 R,a,a P,a,a = read
 Q,a,10001 = record 1: quota over 10000
 Q,a,1 Q,b,999999999 = record 2: quota over 10000";
 
-const LISTS: &str = "\
+const LIST_FAULTS: &str = "\
 R,x,a P,a,x Q,a,1 = read
 Q,a,1 P,b = record 2: unknown name
 Q,a,1 R,x P,a,x,y = record 3: unknown name
@@ -120,7 +120,7 @@ R,x,x = record 1: unknown name
 Q,a,1 P,a,x,x R,x,a = record 2: a name is listed twice
 Q,a,1 Q,b,1 R,x,a,b,a = record 3: a name is listed twice";
 
-const SHEETS: &str = "\
+const SHEET_FAULTS: &str = "\
 M,x,a = record 1: unknown name
 Q,a,1 M,x,a = record 2: unknown name
 R,x M,x,a = record 2: unknown name
@@ -138,7 +138,7 @@ Q,a,1 F,a,0,2 C,full = record 2: bad sheet
 Q,a,1 Q,b,1 R,x M,x,b F,a,0,1 F,b,0,1 = record 6: bad sheet
 F,a,2,1 M,x,a U,z M,y,a R,x R,y R,z Q,a,1 = read";
 
-const EVENTS: &str = "\
+const EVENT_FAULTS: &str = "\
 C,full E,offer,a,x = record 2: unknown name
 Q,a,1 R,x C,full E,offer,b,x = record 4: unknown name
 Q,a,1 R,x C,full E,offer,x,a = record 4: unknown name
@@ -149,7 +149,12 @@ C,0007 E,take,x,a E,hear,a,x,decline Q,a,0 R,x = read";
 
 #[test]
 fn faults_of_one_record(rt: HostRuntime) -> Result<(), Fail> {
-    for lines in [KINDS, COUNTS, NAMES, NUMBERS_AND_WORDS] {
+    for lines in [
+        KIND_FAULTS,
+        FIELD_COUNT_FAULTS,
+        NAME_FAULTS,
+        NUMBER_AND_WORD_FAULTS,
+    ] {
         assert!(rt; first_wrong_line(rt.alloc(), lines)? == None);
         assert!(rt; first_wrong_line_of_version_2(rt.alloc(), lines)? == None);
     }
@@ -158,7 +163,13 @@ fn faults_of_one_record(rt: HostRuntime) -> Result<(), Fail> {
 
 #[test]
 fn faults_among_records(rt: HostRuntime) -> Result<(), Fail> {
-    for lines in [WORKERS, ROWS_BEFORE, LISTS, SHEETS, EVENTS] {
+    for lines in [
+        WORKER_FAULTS,
+        EARLIER_ROW_FAULTS,
+        LIST_FAULTS,
+        SHEET_FAULTS,
+        EVENT_FAULTS,
+    ] {
         assert!(rt; first_wrong_line(rt.alloc(), lines)? == None);
         assert!(rt; first_wrong_line_of_version_2(rt.alloc(), lines)? == None);
     }

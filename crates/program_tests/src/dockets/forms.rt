@@ -17,7 +17,7 @@ const CR_ALONE: &str = "Q,a,1\rQ,b,1\rP,a,x,y\rP,b,y,x\rR,x,b,a\rR,y,a,b";
 const MARK_AND_BLANKS: &str =
     "\u{feff}\n\nQ,a,1\nQ,b,1\n\r\n\nP,a,x,y\nP,b,y,x\n\r\rR,x,b,a\nR,y,a,b\n\n\n";
 
-const QUOTES: &str =
+const QUOTED_FIELDS: &str =
     "\"Q\",\"a\",\"1\"\n\"Q\",b,\"1\"\n\"P\",a,x,\"y\"\nP,b,y,x\n\"R\",\"x\",b,a\nR,\"y\",a,b\n";
 
 // Numbers with leading zeros, and rows in another order than in `SMALL_DOCKET`.
@@ -66,7 +66,7 @@ fn one_docket_in_many_forms(rt: HostRuntime) {
         CR_AND_LF,
         CR_ALONE,
         MARK_AND_BLANKS,
-        QUOTES,
+        QUOTED_FIELDS,
         ANOTHER_ORDER,
     ] {
         assert!(rt; is_small_docket(read(rt.alloc(), form)), "{form}");
@@ -79,7 +79,7 @@ fn one_docket_in_many_forms(rt: HostRuntime) {
 
 // A NUL, bytes above 127, a tab, quotes within fields, line ends within quotes, an empty field, blank lines, and a byte
 // order mark.
-const FORMS: &str = "\
+const FIELD_FORMS: &str = "\
 Q,a\0,1 = record 1: bad name
 Q,a,1 R,\u{e9} = record 2: bad name
 Q,a\t,1 = record 1: bad name
@@ -99,7 +99,7 @@ Q,a,1 \u{feff}Q,b,1 = record 2: unknown kind of row
 \u{feff} = read";
 
 // Bytes that are not text, each with the outcome of reading them.
-const BYTES: [(&[u8], &str); 5] = [
+const BYTES_THAT_ARE_NO_TEXT: [(&[u8], &str); 5] = [
     (b"Q,\xff,1\n", "record 1: bad name"),
     (b"Q,\x80,1\n", "record 1: bad name"),
     (b"Q, a,1\n", "record 1: bad name"),
@@ -109,8 +109,8 @@ const BYTES: [(&[u8], &str); 5] = [
 
 #[test]
 fn fields_that_are_no_names(rt: HostRuntime) -> Result<(), Fail> {
-    assert!(rt; first_wrong_line(rt.alloc(), FORMS)? == None);
-    for (input, wanted) in BYTES {
+    assert!(rt; first_wrong_line(rt.alloc(), FIELD_FORMS)? == None);
+    for (input, wanted) in BYTES_THAT_ARE_NO_TEXT {
         assert!(rt;
             has_outcome(rt.alloc(), read_docket(&rt, rt.alloc(), input), wanted)?,
             "{wanted}"
@@ -120,7 +120,7 @@ fn fields_that_are_no_names(rt: HostRuntime) -> Result<(), Fail> {
 }
 
 // Numbers of bytes of `SMALL_DOCKET` after which a reader fails, each with the number of the unfinished record.
-const CUTS: [(usize, u32); 9] = [
+const READER_CUTS: [(usize, u32); 9] = [
     (0, 1),
     (5, 1),
     (6, 2),
@@ -134,7 +134,7 @@ const CUTS: [(usize, u32); 9] = [
 
 #[test]
 fn a_reader_that_fails(rt: HostRuntime) {
-    for (good_bytes, place) in CUTS {
+    for (good_bytes, place) in READER_CUTS {
         let answer = read_slowly(rt.alloc(), SMALL_DOCKET, good_bytes);
         assert!(rt;
             answer.err() == Some(DocketFault::Read { place }),

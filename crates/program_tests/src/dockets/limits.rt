@@ -14,7 +14,7 @@ use std::test::Fail;
 const TEN_RANKED: &str = ",p9,p8,p7,p6,p5,p4,p3,p2,p1,p0\n";
 
 // The text of `record_count` records, which are alike but for a rising number.
-fn numbered(
+fn numbered_records(
     alloc: Global,
     prefix: &str,
     record_count: u32,
@@ -28,7 +28,7 @@ fn numbered(
 // A docket of ten programmes and 20,000 residents who all rank each other. The records of the last resident are in
 // `last_records`.
 fn ranked_docket(alloc: Global, last_records: &str) -> Result<String, AllocError> {
-    let mut text = numbered(alloc, "Q,p", 10, ",1\n")?;
+    let mut text = numbered_records(alloc, "Q,p", 10, ",1\n")?;
     push_lists(&mut text, alloc)?;
     push_all_numbered(&mut text, alloc, "R,r", 19_999, TEN_RANKED)?;
     text.push_str(last_records)?;
@@ -47,7 +47,7 @@ fn docket_of_closes(alloc: Global, record_count: u32) -> Result<String, AllocErr
 
 // A docket with the greatest number of programmes, and with the records in `last_records`.
 fn most_programmes_and(alloc: Global, last_records: &str) -> Result<String, AllocError> {
-    let mut text = numbered(alloc, "Q,p", 2_000, ",10000\n")?;
+    let mut text = numbered_records(alloc, "Q,p", 2_000, ",10000\n")?;
     text.push_str(last_records)?;
     Ok(text)
 }
@@ -72,7 +72,7 @@ fn residents(rt: HostRuntime) -> Result<(), Fail> {
         (20_000, "read"),
         (20_001, "record 20001: more than 20000 residents"),
     ] {
-        let text = numbered(rt.alloc(), "R,r", record_count, "\n")?;
+        let text = numbered_records(rt.alloc(), "R,r", record_count, "\n")?;
         assert!(rt; reads_as(rt.alloc(), &[text.as_str()], wanted)?, "{wanted}");
     }
     Ok(())
@@ -156,9 +156,9 @@ const FAULTS_BEYOND: [DocketFault; 5] = [
 fn docket_beyond(alloc: Global, limit: usize) -> Result<String, AllocError> {
     match limit {
         0 => most_programmes_and(alloc, "Q,q,10000\n"),
-        1 => numbered(alloc, "R,r", 20_001, "\n"),
+        1 => numbered_records(alloc, "R,r", 20_001, "\n"),
         2 => ranked_docket(alloc, ELEVENTH),
-        3 => numbered(alloc, "Q,q", 1, ",10001\n"),
+        3 => numbered_records(alloc, "Q,q", 1, ",10001\n"),
         _ => docket_of_closes(alloc, 2_000_001),
     }
 }

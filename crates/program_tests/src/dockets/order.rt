@@ -6,7 +6,7 @@ use std::test::Fail;
 // number or a bad kind of answer. After these comes a name that is declared twice, and then a limit. In the later
 // passes, an undeclared name is reported before a name that is listed twice, and before a second row of the same
 // member.
-const ONE_RECORD: &str = "\
+const TWO_FAULTS_IN_ONE_RECORD: &str = "\
 Q,/,1,1 = record 1: wrong number of fields
 Q,/,x = record 1: bad name
 F,/,x,1 = record 1: bad name
@@ -23,7 +23,7 @@ P,b,x,x R,x = record 1: unknown name
 R,x U,x M,x,b = record 3: unknown name";
 
 // Two faults in two records, both found by the same pass.
-const ONE_PASS: &str = "\
+const TWO_FAULTS_IN_ONE_PASS: &str = "\
 Q,a,x Z = record 1: bad quota
 Q,a,10001 Q,/,1 = record 1: quota over 10000
 R,x R,x M,x = record 2: declared twice
@@ -36,7 +36,7 @@ C,full E,close E,offer,a,x E,take,x,a = record 3: unknown name";
 
 // Two faults in two records, found by two passes. The earlier pass finds its fault in the later record. The passes
 // are the first, the second, and the third in each of its walks.
-const EARLIER_PASS: &str = "\
+const TWO_FAULTS_IN_TWO_PASSES: &str = "\
 Q,a,1 P,b Z = record 3: unknown kind of row
 Q,a,1 P,b Q,c,10001 = record 3: quota over 10000
 M,x,a Z = record 2: unknown kind of row
@@ -52,7 +52,7 @@ C,full E,take,y,a Q,a,1 F,a,1,1 = record 4: bad sheet";
 
 // Two faults in a sheet, found by different walks of the third pass: an unknown name or a second row, then a member
 // without a row, then wrong numbers of places.
-const WALKS: &str = "\
+const TWO_FAULTS_IN_TWO_WALKS: &str = "\
 R,x R,y U,x U,x C,full = record 4: bad sheet
 R,x R,y U,x U,z C,full = record 4: unknown name
 Q,a,1 R,x F,a,5,1 M,x,a M,x,a = record 5: bad sheet
@@ -64,7 +64,12 @@ Q,a,1 R,x F,a,1,1 M,x,a C,full = read";
 
 #[test]
 fn two_faults(rt: HostRuntime) -> Result<(), Fail> {
-    for lines in [ONE_RECORD, ONE_PASS, EARLIER_PASS, WALKS] {
+    for lines in [
+        TWO_FAULTS_IN_ONE_RECORD,
+        TWO_FAULTS_IN_ONE_PASS,
+        TWO_FAULTS_IN_TWO_PASSES,
+        TWO_FAULTS_IN_TWO_WALKS,
+    ] {
         assert!(rt; first_wrong_line(rt.alloc(), lines)? == None);
         assert!(rt; first_wrong_line_of_version_2(rt.alloc(), lines)? == None);
     }

@@ -11,7 +11,7 @@ use std::test::Fail;
 
 // Faults that each pass over the rows finds. The last four are faults of the small docket, cut after 3, 20, 34 and 35
 // bytes.
-const FAULTS: [(&[&str], DocketFault); 17] = [
+const READING_FAULTS: [(&[&str], DocketFault); 17] = [
     (&["Q,a,1\nQ,b,x\n"], DocketFault::BadQuota { place: 2 }),
     (&["Q,a\n"], DocketFault::FieldCount { place: 1 }),
     (&["Z,a\n"], DocketFault::UnknownKind { place: 1 }),
@@ -54,7 +54,7 @@ const FAULTS: [(&[&str], DocketFault); 17] = [
 
 #[test]
 fn tells_faults_of_reading(rt: HostRuntime) -> Result<(), Fail> {
-    for (texts, fault) in FAULTS {
+    for (texts, fault) in READING_FAULTS {
         for order in [MATCH, Order::Audit, Order::Replay] {
             let expected = (Err(ServeFault::Docket(fault)), "", 3);
             assert!(rt;
@@ -78,7 +78,7 @@ fn tells_what_a_docket_lacks(rt: HostRuntime) -> Result<(), Fail> {
 }
 
 // The small docket of version 2 without one programme, cut short so that it has a fault.
-const CUTS: [(&[&str], DocketFault); 6] = [
+const CUT_DOCKETS: [(&[&str], DocketFault); 6] = [
     (&["V"], DocketFault::FieldCount { place: 1 }),
     (&["V,"], DocketFault::BadVersion { place: 1 }),
     (
@@ -101,7 +101,7 @@ const CUTS: [(&[&str], DocketFault); 6] = [
 
 #[test]
 fn cuts_of_version_2(rt: HostRuntime) -> Result<(), Fail> {
-    for (texts, fault) in CUTS {
+    for (texts, fault) in CUT_DOCKETS {
         for order in [MATCH, Order::Audit, Order::Replay] {
             let expected = (Err(ServeFault::Docket(fault)), "", 3);
             assert!(rt; serves(rt, rt.alloc(), order, texts, expected)?, "{fault}");

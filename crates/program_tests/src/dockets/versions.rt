@@ -6,7 +6,7 @@ use std::alloc::{AllocError, Global};
 use std::test::Fail;
 use test_support::events::{A, B, X, Y};
 
-const VERSIONS: &str = "\
+const VERSION_FAULTS: &str = "\
 V,3 = record 1: unknown version
 V,x = record 1: unknown version
 V = record 1: wrong number of fields
@@ -20,7 +20,7 @@ V,2 V,2 = record 2: unknown kind of row
 V,2 V,3 = record 2: unknown kind of row
 v,2 = record 1: unknown kind of row";
 
-const WITHDRAWALS: &str = "\
+const WITHDRAWAL_FAULTS: &str = "\
 W,P,a = record 1: unknown kind of row
 W = record 1: unknown kind of row
 W,x = record 1: unknown kind of row
@@ -39,7 +39,7 @@ V,2 W,P, = record 2: bad name
 V,2 W,R,a/b = record 2: bad name
 V,2 R,x W,R,x W,R,x = record 4: declared twice";
 
-const AMONG_RECORDS: &str = "\
+const WITHDRAWALS_AMONG_RECORDS: &str = "\
 V,2 W,P,a Q,a,1 = read
 V,2 W,R,x R,x = read
 V,2 Q,a,1 R,a W,P,a W,R,a = read
@@ -57,7 +57,7 @@ V,2 Q,a,1 R,x W,R,x F,a,0,1 = record 5: bad sheet";
 
 #[test]
 fn faults_of_version_2(rt: HostRuntime) -> Result<(), Fail> {
-    for lines in [VERSIONS, WITHDRAWALS, AMONG_RECORDS] {
+    for lines in [VERSION_FAULTS, WITHDRAWAL_FAULTS, WITHDRAWALS_AMONG_RECORDS] {
         assert!(rt; first_wrong_line(rt.alloc(), lines)? == None);
     }
     Ok(())

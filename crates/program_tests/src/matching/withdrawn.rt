@@ -4,7 +4,7 @@ use crate::texts::{QUOTAS_DOCKET, SMALL_DOCKET, UNLISTED_MEMBERS, VERSION_2};
 use residency::Status;
 use std::test::Fail;
 
-const MATCHES: [(&[&str], &str); 7] = [
+const WITHDRAWN_MATCHES: [(&[&str], &str); 7] = [
     (
         &[VERSION_2, QUOTAS_DOCKET, "W,P,b\n"],
         "M,x,a\nM,y,a\nU,z\nF,a,2,2\nF,b,0,1\n",
@@ -39,7 +39,7 @@ const MATCHES: [(&[&str], &str); 7] = [
 
 #[test]
 fn matches_who_is_left(rt: HostRuntime) -> Result<(), Fail> {
-    for (texts, sheet) in MATCHES {
+    for (texts, sheet) in WITHDRAWN_MATCHES {
         for order in [MATCH, NARROW_MATCH] {
             let expected = (Ok(Status::Closed), sheet, 0);
             assert!(rt; serves(rt, rt.alloc(), order, texts, expected)?, "{sheet}");

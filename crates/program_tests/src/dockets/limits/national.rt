@@ -1,6 +1,6 @@
 //! Dockets that are just over the standard limits; for programmes and residents also dockets at the national limit
 //! and with one member more.
-use super::{ELEVENTH, docket_of_closes, numbered, ranked_docket};
+use super::{ELEVENTH, docket_of_closes, numbered_records, ranked_docket};
 use docket::read_docket_within;
 use match_model::Limits;
 use match_pool::OpenGate;
@@ -29,7 +29,7 @@ fn programmes(rt: HostRuntime) -> Result<(), Fail> {
         (10_000, "read"),
         (10_001, "record 10001: more than 10000 programmes"),
     ] {
-        let text = numbered(rt.alloc(), "Q,p", record_count, ",10000\n")?;
+        let text = numbered_records(rt.alloc(), "Q,p", record_count, ",10000\n")?;
         assert!(rt; reads_as(rt.alloc(), text.as_str(), wanted)?, "{wanted}");
     }
     Ok(())
@@ -42,7 +42,7 @@ fn residents(rt: HostRuntime) -> Result<(), Fail> {
         (100_000, "read"),
         (100_001, "record 100001: more than 100000 residents"),
     ] {
-        let text = numbered(rt.alloc(), "R,r", record_count, "\n")?;
+        let text = numbered_records(rt.alloc(), "R,r", record_count, "\n")?;
         assert!(rt; reads_as(rt.alloc(), text.as_str(), wanted)?, "{wanted}");
     }
     Ok(())
@@ -71,7 +71,7 @@ const MATCH: MatchOptions = MatchOptions {
 
 #[test]
 fn matches_beyond_the_standard_limits(rt: HostRuntime) -> Result<(), Fail> {
-    let mut text = numbered(rt.alloc(), "Q,p", 2_001, ",1\n")?;
+    let mut text = numbered_records(rt.alloc(), "Q,p", 2_001, ",1\n")?;
     text.push_str("P,p2000,r\nR,r,p2000\n")?;
     let mut sheet = Vec::new(rt.alloc());
     let answer = serve_within(
