@@ -162,7 +162,7 @@ fn workers_of(matches: &ArgMatches) -> usize
 // The capacity of the mailboxes that the words give; `full` if they give none. A text that stands for
 // no capacity is a fault.
 fn room_of(matches: &ArgMatches) -> Result<Capacity, LineFault>
-    ensures admitted { IfOk result (λ room. is_capacity room ≡ true) }
+    ensures admitted { IfOk result (λ capacity. is_capacity capacity ≡ true) }
     ensures given { IfOk result (GivesRoom (rows_of (found_of matches.now))) }
     ensures fault { IfErr result (λ fault. fault ≡ BadCapacity) }
     ensures bad { IfErr result (λ fault.

@@ -30,12 +30,13 @@ fn read_file(
     requires within { reading.old.records ≤ most_records_in reading.old.declared.builder.limits }
     requires workers { IfSome reading.old.declared.workers (λ n. n ≤ 8) }
     ensures workers { OnOk result (IfSome reading.new.declared.workers (λ n. n ≤ 8)) }
-    ensures passed { OnOk result ((kept : List Fields) → IsPassed reading.old kept
-        → GoesOn (Some file) kept (Some (rows_of bytes.now)) reading.new) }
+    ensures passed { OnOk result ((kept_rows : List Fields) → IsPassed reading.old kept_rows
+        → GoesOn (Some file) kept_rows (Some (rows_of bytes.now)) reading.new) }
     ensures limits { OnOk result
         (reading.new.declared.builder.limits ≡ reading.old.declared.builder.limits) }
-    ensures fault { IfErr result (λ fault. (kept : List Fields) → IsPassed reading.old kept → Tells
-        (file_fault file reading.old.declared.builder.limits kept (rows_of bytes.now)) fault) }
+    ensures fault { IfErr result (λ fault. (kept_rows : List Fields)
+        → IsPassed reading.old kept_rows → Tells
+        (file_fault file reading.old.declared.builder.limits kept_rows (rows_of bytes.now)) fault) }
 {
     let records_before = reading.records;
     match read_part(alloc, Some(file), bytes, reading) {

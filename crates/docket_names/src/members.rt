@@ -81,10 +81,10 @@ impl Members {
     /// Adds a member whose name is the text with this number, unless there is such a member. Says whether the member
     /// is new.
     pub fn add(&mut self, text: usize) -> Result<bool, AllocError>
-        ensures fresh { IfOk result (λ fresh.
-            fresh ≡ not (is_some (position (nat_eq text) self.old))) }
-        ensures added { IfOk result (λ fresh.
-            self.new ≡ (if fresh then self.old ++ text ∷ [] else self.old)) }
+        ensures fresh { IfOk result (λ is_new.
+            is_new ≡ not (is_some (position (nat_eq text) self.old))) }
+        ensures added { IfOk result (λ is_new.
+            self.new ≡ (if is_new then self.old ++ text ∷ [] else self.old)) }
     {
         if self.member(text).is_some() {
             return Ok(false);

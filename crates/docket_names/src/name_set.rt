@@ -47,7 +47,7 @@ impl NameSet {
 
     /// Adds the text with this number to the set, and says whether it is new in the set.
     pub fn add(&mut self, text: usize) -> Result<bool, AllocError>
-        ensures fresh { IfOk result (λ fresh. fresh ≡ not (slice_index_or self.old text false)) }
+        ensures fresh { IfOk result (λ is_new. is_new ≡ not (slice_index_or self.old text false)) }
         ensures added { OnOk result ((n : ℕ) → slice_index_or self.new n false
             ≡ (nat_eq n text || slice_index_or self.old n false)) }
     {
