@@ -15,7 +15,7 @@ use std::marker::Model;
 pub struct WaitQueues {
     first_desks: Vec<Option<u32>>,
     last_desks: Vec<Option<u32>>,
-    mailboxes: Vec<Option<u32>>,
+    awaited_mailboxes: Vec<Option<u32>>,
     desks_before: Vec<Option<u32>>,
     desks_behind: Vec<Option<u32>>,
     called_desks: Vec<bool>,
@@ -30,7 +30,7 @@ impl Model for WaitQueues {
     ghost view = { λ q. record {
       first = q.first_desks.items;
       last = q.last_desks.items;
-      mailbox = q.mailboxes.items;
+      mailbox = q.awaited_mailboxes.items;
       before = q.desks_before.items;
       behind = q.desks_behind.items;
       called = q.called_desks.items;
@@ -39,7 +39,7 @@ impl Model for WaitQueues {
     ghost invariant = { λ q. AreQueues (record {
       first = q.first_desks.items;
       last = q.last_desks.items;
-      mailbox = q.mailboxes.items;
+      mailbox = q.awaited_mailboxes.items;
       before = q.desks_before.items;
       behind = q.desks_behind.items;
       called = q.called_desks.items;
@@ -58,7 +58,7 @@ impl WaitQueues {
         Ok(WaitQueues {
             first_desks: vec![in alloc; None; desks]?,
             last_desks: vec![in alloc; None; desks]?,
-            mailboxes: vec![in alloc; None; desks]?,
+            awaited_mailboxes: vec![in alloc; None; desks]?,
             desks_before: vec![in alloc; None; desks]?,
             desks_behind: vec![in alloc; None; desks]?,
             called_desks: vec![in alloc; false; desks]?,
@@ -86,7 +86,7 @@ impl WaitQueues {
             queue_of self.new m ≡ without desk (queue_of self.old m) }
         ensures called { self.new.called ≡ self.old.called }
     {
-        if desk as usize >= self.mailboxes.len() {
+        if desk as usize >= self.awaited_mailboxes.len() {
             return;
         }
         if self.waits_for(desk, mailbox) {
@@ -101,7 +101,7 @@ impl WaitQueues {
         ensures yes { result ≡ true → linked_at self.now.mailbox desk ≡ Some mailbox }
         ensures no { result ≡ false → linked_at self.now.mailbox desk ≢ Some mailbox }
     {
-        match linked(&self.mailboxes, desk) {
+        match linked(&self.awaited_mailboxes, desk) {
             Some(awaited_mailbox) => awaited_mailbox == mailbox,
             None => false,
         }
@@ -127,7 +127,7 @@ impl WaitQueues {
         link(&mut self.last_desks, mailbox, Some(desk));
         link(&mut self.desks_before, desk, last_desk);
         link(&mut self.desks_behind, desk, None);
-        link(&mut self.mailboxes, desk, Some(mailbox));
+        link(&mut self.awaited_mailboxes, desk, Some(mailbox));
         self.waiting_count += 1;
     }
 
@@ -157,7 +157,7 @@ impl WaitQueues {
         ensures queues { (m : ℕ) → queue_of self.new m ≡ without desk (queue_of self.old m) }
         ensures called { self.new.called ≡ self.old.called }
     {
-        let Some(mailbox) = linked(&self.mailboxes, desk) else {
+        let Some(mailbox) = linked(&self.awaited_mailboxes, desk) else {
             return;
         };
         self.unlink(mailbox, desk);
@@ -185,7 +185,7 @@ impl WaitQueues {
             mailbox,
             desk_before,
         );
-        link(&mut self.mailboxes, desk, None);
+        link(&mut self.awaited_mailboxes, desk, None);
         self.waiting_count -= 1;
     }
 

@@ -14,12 +14,12 @@ pub overflow_add-self : goal.overflow_add-self
 overflow_add-self c =
     let s = c.self.inside in
     let need = required _ _ c.args.desk c.self.view_is c.requires.within c.requires.waits_not in
-    omega (arith, fewer_wait s.mailboxes.items c.args.desk need.0 need.1, s.mailboxes.ok.0, s.mailboxes.small, c.self.invariant.counted)
+    omega (arith, fewer_wait s.awaited_mailboxes.items c.args.desk need.0 need.1, s.awaited_mailboxes.ok.0, s.awaited_mailboxes.small, c.self.invariant.counted)
 
 pub invariant_of-self : goal.invariant_of-self
 invariant_of-self c =
     let s = c.self.inside in
-    let w : Waits = record { first = s.first_desks.items; last = s.last_desks.items; mailbox = s.mailboxes.items; before = s.desks_before.items; behind = s.desks_behind.items; called = s.called_desks.items } in
+    let w : Waits = record { first = s.first_desks.items; last = s.last_desks.items; mailbox = s.awaited_mailboxes.items; before = s.desks_before.items; behind = s.desks_behind.items; called = s.called_desks.items } in
     let need = required c.args.self.now w c.args.desk c.self.view_is c.requires.within c.requires.waits_not in
     let rows : record { first = c.relink.new.queue_ends.items; last = c.link.new.links.items; mailbox = c.link-4.new.links.items; before = c.link-2.new.links.items; behind = c.link-3.new.links.items; called = s.called_desks.items } ≡ joined_rows w c.args.mailbox c.args.desk = search rules in
     subst (λ (v : Waits). AreQueues v (s.waiting_count + 1)) (sym rows) (joined_queues w s.waiting_count c.args.mailbox c.args.desk c.self.invariant need.0 need.1 (s.waiting_count + 1) refl)
@@ -27,7 +27,7 @@ invariant_of-self c =
 pub returns-clause-behind_all : goal.returns-clause-behind_all
 returns-clause-behind_all c =
     let s = c.self.inside in
-    let w : Waits = record { first = s.first_desks.items; last = s.last_desks.items; mailbox = s.mailboxes.items; before = s.desks_before.items; behind = s.desks_behind.items; called = s.called_desks.items } in
+    let w : Waits = record { first = s.first_desks.items; last = s.last_desks.items; mailbox = s.awaited_mailboxes.items; before = s.desks_before.items; behind = s.desks_behind.items; called = s.called_desks.items } in
     let need = required c.args.self.now w c.args.desk c.self.view_is c.requires.within c.requires.waits_not in
     let new : Waits = record { first = c.relink.new.queue_ends.items; last = c.link.new.links.items; mailbox = c.link-4.new.links.items; before = c.link-2.new.links.items; behind = c.link-3.new.links.items; called = s.called_desks.items } in
     let rows : new ≡ joined_rows w c.args.mailbox c.args.desk = search rules in
@@ -38,7 +38,7 @@ returns-clause-behind_all c =
 pub returns-clause-elsewhere : goal.returns-clause-elsewhere
 returns-clause-elsewhere c =
     let s = c.self.inside in
-    let w : Waits = record { first = s.first_desks.items; last = s.last_desks.items; mailbox = s.mailboxes.items; before = s.desks_before.items; behind = s.desks_behind.items; called = s.called_desks.items } in
+    let w : Waits = record { first = s.first_desks.items; last = s.last_desks.items; mailbox = s.awaited_mailboxes.items; before = s.desks_before.items; behind = s.desks_behind.items; called = s.called_desks.items } in
     let need = required c.args.self.now w c.args.desk c.self.view_is c.requires.within c.requires.waits_not in
     let new : Waits = record { first = c.relink.new.queue_ends.items; last = c.link.new.links.items; mailbox = c.link-4.new.links.items; before = c.link-2.new.links.items; behind = c.link-3.new.links.items; called = s.called_desks.items } in
     let rows : new ≡ joined_rows w c.args.mailbox c.args.desk = search rules in

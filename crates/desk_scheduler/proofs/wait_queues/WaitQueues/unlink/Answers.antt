@@ -10,14 +10,14 @@ required now view d m is waits = subst (λ (w : Waits). linked_at w.mailbox d �
 pub overflow_sub-self : goal.overflow_sub-self
 overflow_sub-self c =
     let s = c.self.inside in
-    let w : Waits = record { first = s.first_desks.items; last = s.last_desks.items; mailbox = s.mailboxes.items; before = s.desks_before.items; behind = s.desks_behind.items; called = s.called_desks.items } in
+    let w : Waits = record { first = s.first_desks.items; last = s.last_desks.items; mailbox = s.awaited_mailboxes.items; before = s.desks_before.items; behind = s.desks_behind.items; called = s.called_desks.items } in
     let waits = required c.args.self.now w c.args.desk c.args.mailbox c.self.view_is c.requires.waits in
     omega (arith, some_waits w s.waiting_count c.args.mailbox c.args.desk c.self.invariant waits)
 
 pub invariant_of-self : goal.invariant_of-self
 invariant_of-self c =
     let s = c.self.inside in
-    let w : Waits = record { first = s.first_desks.items; last = s.last_desks.items; mailbox = s.mailboxes.items; before = s.desks_before.items; behind = s.desks_behind.items; called = s.called_desks.items } in
+    let w : Waits = record { first = s.first_desks.items; last = s.last_desks.items; mailbox = s.awaited_mailboxes.items; before = s.desks_before.items; behind = s.desks_behind.items; called = s.called_desks.items } in
     let waits = required c.args.self.now w c.args.desk c.args.mailbox c.self.view_is c.requires.waits in
     let new : Waits = record { first = c.relink.new.queue_ends.items; last = c.relink-2.new.queue_ends.items; mailbox = c.link.new.links.items; before = c.relink-2.new.links.items; behind = c.relink.new.links.items; called = s.called_desks.items } in
     let rows : new ≡ left_rows w c.args.mailbox c.args.desk = search rules in
@@ -27,7 +27,7 @@ invariant_of-self c =
 pub returns-clause-queues : goal.returns-clause-queues
 returns-clause-queues c =
     let s = c.self.inside in
-    let w : Waits = record { first = s.first_desks.items; last = s.last_desks.items; mailbox = s.mailboxes.items; before = s.desks_before.items; behind = s.desks_behind.items; called = s.called_desks.items } in
+    let w : Waits = record { first = s.first_desks.items; last = s.last_desks.items; mailbox = s.awaited_mailboxes.items; before = s.desks_before.items; behind = s.desks_behind.items; called = s.called_desks.items } in
     let waits = required c.args.self.now w c.args.desk c.args.mailbox c.self.view_is c.requires.waits in
     let new : Waits = record { first = c.relink.new.queue_ends.items; last = c.relink-2.new.queue_ends.items; mailbox = c.link.new.links.items; before = c.relink-2.new.links.items; behind = c.relink.new.links.items; called = s.called_desks.items } in
     let rows : new ≡ left_rows w c.args.mailbox c.args.desk = search rules in
