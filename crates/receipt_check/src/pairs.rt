@@ -23,7 +23,7 @@ fn texts_of(alloc: Global, receipt_files: &[Vec<u8>]) -> Result<Vec<Vec<u8>>, Al
         ≡ map pair.short_text (bytes_in receipt_files.now)) }
 {
     let mut receipt_texts = Vec::new(alloc);
-    for k in 0..files.len() {
+    for k in 0..receipt_files.len() {
         receipt_texts.push(short_text(alloc, receipt_files[k].as_slice())?)?;
     }
     Ok(receipt_texts)
@@ -66,7 +66,7 @@ fn gather_receipts<'r, 'a>(
         receipt_files.now))) }
 {
     let mut receipts = FolderReceipts::new(alloc, hash_keys);
-    for k in 0..files.len() {
+    for k in 0..receipt_files.len() {
         let (file, text, rows) = (
             receipt_files[k].as_slice(),
             receipt_texts[k].as_slice(),

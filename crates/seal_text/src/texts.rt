@@ -75,7 +75,7 @@ fn push_choices(
 {
     // For the proof alone: the docket is whole.
     let _instance = docket.instance();
-    for k in 0..lists.listed_by_resident(resident) {
+    for k in 0..written_lists.listed_by_resident(resident) {
         let Some(programme) = written_lists.choice(resident, k) else {
             unreachable!("the list is so long");
         };
