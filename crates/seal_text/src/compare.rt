@@ -153,21 +153,13 @@ pub(crate) fn compare_pair<W: Write, T: Eprint, H: RandomSource + Files + AllocG
     ensures { EndsPair rows.now (W.contents writer.old) (W.contents writer.new)
         (exit_status_in result) }
 {
-    let Some(published_lists) = published_of(rows.lists.as_bytes()) else {
+    let Some(lists) = published_of(rows.lists.as_bytes()) else {
         return refuse_row(console, "lists");
     };
-    let Some(published_result) = published_of(rows.outcome.as_bytes()) else {
+    let Some(outcome) = published_of(rows.outcome.as_bytes()) else {
         return refuse_row(console, "result");
     };
-    compare_two(
-        rt,
-        alloc,
-        &published_lists,
-        &published_result,
-        paths,
-        writer,
-        console,
-    )
+    compare_two(rt, alloc, &lists, &outcome, paths, writer, console)
 }
 
 /// Compares the receipts of a directory under the roots in these rows, and returns the exit status.
@@ -182,19 +174,11 @@ pub(crate) fn compare_pairs<W: Write, T: Eprint, H: RandomSource + Files + Alloc
     ensures { EndsPairs rows.now (W.contents writer.old) (W.contents writer.new)
         (exit_status_in result) }
 {
-    let Some(published_lists) = published_of(rows.lists.as_bytes()) else {
+    let Some(lists) = published_of(rows.lists.as_bytes()) else {
         return refuse_row(console, "lists");
     };
-    let Some(published_result) = published_of(rows.outcome.as_bytes()) else {
+    let Some(outcome) = published_of(rows.outcome.as_bytes()) else {
         return refuse_row(console, "result");
     };
-    compare_all(
-        rt,
-        alloc,
-        &published_lists,
-        &published_result,
-        directory,
-        writer,
-        console,
-    )
+    compare_all(rt, alloc, &lists, &outcome, directory, writer, console)
 }
