@@ -44,7 +44,7 @@ fn serve_loaded<W: Write, T: Eprint, H: RandomSource>(
         → EndsAnswered (AnswersOrder order.now input
         (W.contents writer.old) (W.contents writer.new)) exit_status_of (exit_status_in result) }
 {
-    let answer = serve_files(
+    let serve_result = serve_files(
         rt,
         alloc,
         order.facts,
@@ -53,10 +53,10 @@ fn serve_loaded<W: Write, T: Eprint, H: RandomSource>(
         lent(&files.journal),
         writer,
     );
-    if let Err(fault) = &answer {
+    if let Err(fault) = &serve_result {
         tell(console, order, fault);
     }
-    ExitCode::from(exit_status(&answer))
+    ExitCode::from(exit_status(&serve_result))
 }
 
 // Reads the files that the command line names, and writes the answer.
@@ -106,11 +106,11 @@ where
     ensures { Ends words (R.remaining reader.old) (R.remaining reader.new) (W.contents writer.old)
         (W.contents writer.new) (exit_status_in result) }
 {
-    let texts = match texts_of(words) {
-        Ok(texts) => texts,
+    let word_texts = match texts_of(words) {
+        Ok(word_texts) => word_texts,
         Err(fault) => return refuse(console, &fault),
     };
-    match read_line(alloc, texts.as_slice()) {
+    match read_line(alloc, word_texts.as_slice()) {
         Ok(order) => serve_order(rt, alloc, &order, reader, writer, console),
         Err(fault) => refuse(console, &UsageFault::Line(fault)),
     }

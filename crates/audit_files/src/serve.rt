@@ -29,12 +29,16 @@ pub enum Verdict {
 }
 
 // Adds the rows of an audit.
-fn add_audit(alloc: Global, docket: &Docket, text: &mut Vec<u8>) -> Result<Status, FilesFault>
+fn add_audit(
+    alloc: Global,
+    docket: &Docket,
+    answer_text: &mut Vec<u8>,
+) -> Result<Status, FilesFault>
     ensures report { IfOk result (λ status.
-        WritesReport docket.now status (Some text.old.items) (Some text.new.items)) }
+        WritesReport docket.now status (Some answer_text.old.items) (Some answer_text.new.items)) }
     ensures fault { IfErr result (IsAnswerFault docket.now) }
 {
-    match audit_docket(alloc, docket, text) {
+    match audit_docket(alloc, docket, answer_text) {
         Ok(status) => Ok(status),
         Err(AnswerFault::NoSheet) => Err(FilesFault::NoSheet),
         Err(_) => Err(FilesFault::Memory),
@@ -45,10 +49,10 @@ fn add_audit(alloc: Global, docket: &Docket, text: &mut Vec<u8>) -> Result<Statu
 fn add_result(
     alloc: Global,
     docket: &Docket,
-    text: &mut Vec<u8>,
+    answer_text: &mut Vec<u8>,
 ) -> Result<Option<ResidentNo>, FilesFault>
     ensures first { IfOk result (TellsFirst docket.now) }
-    ensures text { IfOk result (λ differing_resident. Grows text.old text.new
+    ensures text { IfOk result (λ differing_resident. Grows answer_text.old answer_text.new
         (result_row docket.now differing_resident)) }
     ensures fault { IfErr result (IsAnswerFault docket.now) }
 {
@@ -59,19 +63,23 @@ fn add_result(
         return Err(FilesFault::Memory);
     };
     let same_resident = differing_resident;
-    match put_result(text, docket, differing_resident) {
+    match put_result(answer_text, docket, differing_resident) {
         Ok(()) => Ok(same_resident),
         Err(_) => Err(FilesFault::Memory),
     }
 }
 
 // Adds the rows of a replay.
-fn add_replay(alloc: Global, docket: &Docket, text: &mut Vec<u8>) -> Result<Status, FilesFault>
+fn add_replay(
+    alloc: Global,
+    docket: &Docket,
+    answer_text: &mut Vec<u8>,
+) -> Result<Status, FilesFault>
     ensures answer { IfOk result (λ status.
-        WritesReplay docket.now status (Some text.old.items) (Some text.new.items)) }
+        WritesReplay docket.now status (Some answer_text.old.items) (Some answer_text.new.items)) }
     ensures fault { IfErr result (IsAnswerFault docket.now) }
 {
-    match replay_docket(alloc, docket, text) {
+    match replay_docket(alloc, docket, answer_text) {
         Ok(status) => Ok(status),
         Err(AnswerFault::NoJournal) => Err(FilesFault::NoJournal),
         Err(_) => Err(FilesFault::Memory),
@@ -83,15 +91,16 @@ fn add_replay_if(
     alloc: Global,
     docket: &Docket,
     journal: Option<&[u8]>,
-    text: &mut Vec<u8>,
+    answer_text: &mut Vec<u8>,
 ) -> Result<Option<Status>, FilesFault>
     ensures answer { IfOk result (λ status.
-        Replays docket.now (option_copied journal.entry) text.old.items status text.new.items) }
+        Replays docket.now (option_copied journal.entry) answer_text.old.items status
+        answer_text.new.items) }
     ensures fault { IfErr result (IsAnswerFault docket.now) }
 {
     match journal {
         None => Ok(None),
-        Some(_) => match add_replay(alloc, docket, text) {
+        Some(_) => match add_replay(alloc, docket, answer_text) {
             Ok(status) => Ok(Some(status)),
             Err(fault) => Err(fault),
         },
@@ -117,21 +126,22 @@ fn add_answer(
     alloc: Global,
     docket: &Docket,
     journal: Option<&[u8]>,
-    text: &mut Vec<u8>,
+    answer_text: &mut Vec<u8>,
 ) -> Result<Verdict, FilesFault>
     ensures answer { IfOk result (λ verdict.
-        Tells docket.now (option_copied journal.entry) text.old.items verdict text.new.items) }
+        Tells docket.now (option_copied journal.entry) answer_text.old.items verdict
+        answer_text.new.items) }
     ensures fault { IfErr result (IsAnswerFault docket.now) }
 {
-    let audit_status = match add_audit(alloc, docket, text) {
+    let audit_status = match add_audit(alloc, docket, answer_text) {
         Ok(audit_status) => audit_status,
         Err(fault) => return Err(fault),
     };
-    let differing_resident = match add_result(alloc, docket, text) {
+    let differing_resident = match add_result(alloc, docket, answer_text) {
         Ok(differing_resident) => differing_resident,
         Err(fault) => return Err(fault),
     };
-    let replay_status = match add_replay_if(alloc, docket, journal, text) {
+    let replay_status = match add_replay_if(alloc, docket, journal, answer_text) {
         Ok(replay_status) => replay_status,
         Err(fault) => return Err(fault),
     };

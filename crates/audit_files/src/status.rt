@@ -19,10 +19,10 @@ pub fn files_status(fault: &FilesFault) -> u8
 
 /// The exit status after an audit over files. The status is 0 if everything is good, and 4 if something is bad. The
 /// status is 1 if memory, reading or writing failed, and 3 if a file is at fault.
-pub(crate) fn exit_status(answer: &Result<Verdict, FilesFault>) -> u8
-    ensures { result ≡ exit_status_of answer.now }
+pub(crate) fn exit_status(serve_result: &Result<Verdict, FilesFault>) -> u8
+    ensures { result ≡ exit_status_of serve_result.now }
 {
-    match answer {
+    match serve_result {
         Ok(Verdict::Good) => 0,
         Ok(Verdict::Bad) => 4,
         Err(fault) => files_status(fault),

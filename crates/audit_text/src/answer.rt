@@ -68,29 +68,29 @@ fn event_count(docket: &Docket) -> usize
 // Adds the row of a fault that needs no more than a word.
 fn push_word<W: Write>(
     rows: &mut RowWriter<'_, W>,
-    place_digits: &[u8],
+    event_digits: &[u8],
     word: &str,
 ) -> Result<(), WriteFailed>
     ensures { OnOk result
-        (Adds W.contents rows.old rows.new (row (codes "N" ∷ place_digits.now ∷ word.now ∷ []))) }
+        (Adds W.contents rows.old rows.new (row (codes "N" ∷ event_digits.now ∷ word.now ∷ []))) }
 {
-    rows.push(&[b"N", place_digits, word.as_bytes()])
+    rows.push(&[b"N", event_digits, word.as_bytes()])
 }
 
 // Adds the row of a close that was refused because something is pending.
 fn push_pending<W: Write>(
     rows: &mut RowWriter<'_, W>,
-    place_digits: &[u8],
+    event_digits: &[u8],
     kind_word: &str,
     desk_name: &str,
 ) -> Result<(), WriteFailed>
     ensures { OnOk result
         (Adds W.contents rows.old rows.new
-        (row (pending_fields place_digits.now kind_word.now desk_name.now))) }
+        (row (pending_fields event_digits.now kind_word.now desk_name.now))) }
 {
     rows.push(&[
         b"N",
-        place_digits,
+        event_digits,
         b"still-pending",
         kind_word.as_bytes(),
         desk_name.as_bytes(),
@@ -101,23 +101,23 @@ fn push_pending<W: Write>(
 fn push_refused<W: Write>(
     rows: &mut RowWriter<'_, W>,
     docket: &Docket,
-    place_digits: &[u8],
+    event_digits: &[u8],
     refused: &Refused,
 ) -> Result<(), WriteFailed>
     requires member { RefusesMember docket.now.instance refused.now }
     ensures { OnOk result (Adds W.contents rows.old rows.new
-        (row (refused_fields docket.now place_digits.now refused.now))) }
+        (row (refused_fields docket.now event_digits.now refused.now))) }
 {
     match refused {
         Refused::StillPending(pending) => {
             push_pending(
                 rows,
-                place_digits,
+                event_digits,
                 pending_word(pending),
                 pending_name(docket, pending),
             )
         }
-        _ => push_word(rows, place_digits, refusal_word(refused)),
+        _ => push_word(rows, event_digits, refusal_word(refused)),
     }
 }
 
@@ -136,12 +136,12 @@ fn push_fault<W: Write>(
         ReplayFault::BadCapacity => push_word(rows, b"0", "bad-capacity"),
         ReplayFault::Memory => push_word(rows, b"0", "memory"),
         ReplayFault::At { place, refused } => {
-            let place_digits = number_buffer.format(*place).as_bytes();
-            push_refused(rows, docket, place_digits, refused)
+            let event_digits = number_buffer.format(*place).as_bytes();
+            push_refused(rows, docket, event_digits, refused)
         }
         ReplayFault::NotClosed => {
-            let place_digits = number_buffer.format(event_count(docket) + 1).as_bytes();
-            push_word(rows, place_digits, "not-closed")
+            let event_digits = number_buffer.format(event_count(docket) + 1).as_bytes();
+            push_word(rows, event_digits, "not-closed")
         }
         ReplayFault::SheetDiffers(resident) => {
             rows.push(&[b"D", docket.resident_name(*resident).as_bytes()])
@@ -155,21 +155,21 @@ fn push_good<W: Write>(rows: &mut RowWriter<'_, W>, events: usize) -> Result<(),
         (Adds W.contents rows.old rows.new (row (codes "G" ∷ decimal events ∷ []))) }
 {
     let mut number_buffer = itoa::Buffer::new();
-    let event_digits = number_buffer.format(events);
-    rows.push(&[b"G", event_digits.as_bytes()])
+    let count_digits = number_buffer.format(events);
+    rows.push(&[b"G", count_digits.as_bytes()])
 }
 
 // Adds the row of a replay's answer.
 fn push_answer<W: Write>(
     rows: &mut RowWriter<'_, W>,
     docket: &Docket,
-    answer: &Result<Replayed, ReplayFault>,
+    replay_result: &Result<Replayed, ReplayFault>,
 ) -> Result<(), WriteFailed>
-    requires member { IsAnswerOf docket.now answer.now }
+    requires member { IsAnswerOf docket.now replay_result.now }
     ensures { OnOk result
-        (Adds W.contents rows.old rows.new (row (answer_fields docket.now answer.now))) }
+        (Adds W.contents rows.old rows.new (row (answer_fields docket.now replay_result.now))) }
 {
-    match answer {
+    match replay_result {
         Ok(replayed) => push_good(rows, replayed.events),
         Err(fault) => push_fault(rows, docket, fault),
     }
@@ -186,8 +186,8 @@ fn push_worker<W: Write>(
 {
     let (mut worker_buffer, mut event_buffer) = (itoa::Buffer::new(), itoa::Buffer::new());
     let worker_digits = worker_buffer.format(worker);
-    let event_digits = event_buffer.format(events);
-    rows.push(&[b"K", worker_digits.as_bytes(), event_digits.as_bytes()])
+    let count_digits = event_buffer.format(events);
+    rows.push(&[b"K", worker_digits.as_bytes(), count_digits.as_bytes()])
 }
 
 // Adds a row for each worker, with the number of the worker's events.
@@ -207,14 +207,14 @@ fn push_workers<W: Write>(
 #[tactic(auto, unfolding(crate::specs::Answer::count_rows))]
 fn push_counts<W: Write>(
     rows: &mut RowWriter<'_, W>,
-    answer: &Result<Replayed, ReplayFault>,
+    replay_result: &Result<Replayed, ReplayFault>,
     event_counts: Option<&[u64]>,
 ) -> Result<(), WriteFailed>
     ensures { OnOk result
         (Adds W.contents rows.old rows.new
-        (count_rows answer.now (option_copied event_counts.entry))) }
+        (count_rows replay_result.now (option_copied event_counts.entry))) }
 {
-    match (answer, event_counts) {
+    match (replay_result, event_counts) {
         (Ok(_), Some(event_counts)) => push_workers(rows, event_counts),
         _ => Ok(()),
     }
@@ -224,15 +224,15 @@ fn push_counts<W: Write>(
 fn push_replay<W: Write>(
     rows: &mut RowWriter<'_, W>,
     docket: &Docket,
-    answer: &Result<Replayed, ReplayFault>,
+    replay_result: &Result<Replayed, ReplayFault>,
     event_counts: Option<&[u64]>,
 ) -> Result<(), WriteFailed>
-    requires { IsAnswerOf docket.now answer.now }
+    requires { IsAnswerOf docket.now replay_result.now }
     ensures { OnOk result (Adds W.contents rows.old rows.new
-        (replay_text docket.now answer.now (option_copied event_counts.entry))) }
+        (replay_text docket.now replay_result.now (option_copied event_counts.entry))) }
 {
-    push_answer(rows, docket, answer)?;
-    push_counts(rows, answer, event_counts)
+    push_answer(rows, docket, replay_result)?;
+    push_counts(rows, replay_result, event_counts)
 }
 
 /// Writes the answer of a replay of the docket's journal, in one row. After a good answer, if `event_counts` are given,
@@ -242,19 +242,19 @@ fn push_replay<W: Write>(
 pub fn write_replay<W: Write>(
     alloc: Global,
     docket: &Docket,
-    answer: &Result<Replayed, ReplayFault>,
+    replay_result: &Result<Replayed, ReplayFault>,
     event_counts: Option<&[u64]>,
     writer: &mut W,
 ) -> Result<(), DocketFault>
-    requires { IsAnswerOf docket.now answer.now }
+    requires { IsAnswerOf docket.now replay_result.now }
     ensures ok { OnOk result (Writes W.contents writer.old writer.new
-        (replay_text docket.now answer.now (option_copied event_counts.entry))) }
+        (replay_text docket.now replay_result.now (option_copied event_counts.entry))) }
     ensures fault { IfErr result IsWriteFault }
     ensures before { IfErr result (λ fault. fault ≢ DocketFault.Write → writer.new ≡ writer.old) }
 {
     let mut row_buffer = room_for_rows(alloc)?;
     let mut rows = RowWriter::new(writer, &mut row_buffer);
-    push_replay(&mut rows, docket, answer, event_counts)?;
+    push_replay(&mut rows, docket, replay_result, event_counts)?;
     rows.send()?;
     Ok(())
 }

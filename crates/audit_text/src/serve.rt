@@ -94,16 +94,22 @@ pub fn replay_docket<W: Write>(
         return Err(AnswerFault::NoJournal);
     };
     let events = journal.events.as_slice();
-    let answer = match docket.sheet() {
+    let replay_result = match docket.sheet() {
         Some(sheet) => check(alloc, docket.instance(), journal.capacity, events, sheet),
         None => replay(alloc, docket.instance(), journal.capacity, events),
     };
-    if let Err(ReplayFault::Memory) = answer {
+    if let Err(ReplayFault::Memory) = replay_result {
         return Err(AnswerFault::Memory);
     }
     let event_counts = counts_of(alloc, journal)?;
-    match write_replay(alloc, docket, &answer, counts_slice(&event_counts), writer) {
-        Ok(()) if answer.is_ok() => Ok(Status::ReplayGood),
+    match write_replay(
+        alloc,
+        docket,
+        &replay_result,
+        counts_slice(&event_counts),
+        writer,
+    ) {
+        Ok(()) if replay_result.is_ok() => Ok(Status::ReplayGood),
         Ok(()) => Ok(Status::ReplayBad),
         Err(fault) => Err(AnswerFault::Docket(fault)),
     }

@@ -67,16 +67,16 @@ receipt_there h k d within = get_or-map receipt_of h.receipts.items k d (content
 -- what is kept of the side, else nothing
 pub record AddsIf (kind : Kind) (r : Receipt) (file : ℕ) (old new : PresentMembers) : Type 0 where
   pub names : new.names ≡ old.names ++ (if is_of kind r then r.name ∷ [] else [])
-  pub files : new.files.items ≡ old.files.items ++ (if is_of kind r then file ∷ [] else [])
+  pub files : new.file_numbers.items ≡ old.file_numbers.items ++ (if is_of kind r then file ∷ [] else [])
 
 pub adds_none : (kind : Kind) (r : Receipt) (file : ℕ) (old new : PresentMembers) → is_of kind r ≡ false → new ≡ old → AddsIf kind r file old new
 adds_none kind r file old new other same = record {
   names = ap (λ (there : PresentMembers). there.names) same ∙ sym (rw other (append-nil old.names));
-  files = ap (λ (there : PresentMembers). there.files.items) same ∙ sym (rw other (append-nil old.files.items));
+  files = ap (λ (there : PresentMembers). there.file_numbers.items) same ∙ sym (rw other (append-nil old.file_numbers.items));
 }
 
 pub adds_one : (kind : Kind) (r : Receipt) (file : ℕ) (old new : PresentMembers) → is_of kind r ≡ true → new.names ≡ old.names ++ r.name ∷ []
-    → new.files.items ≡ old.files.items ++ file ∷ [] → AddsIf kind r file old new
+    → new.file_numbers.items ≡ old.file_numbers.items ++ file ∷ [] → AddsIf kind r file old new
 adds_one kind r file old new its names files = record { names = rw its names; files = rw its files }
 
 present_push : (kind : Kind) (rs : List Receipt) (r : Receipt) (old new : PresentMembers) → ArePresent kind rs old → AddsIf kind r (length rs) old new → ArePresent kind (rs ++ r ∷ []) new
@@ -87,7 +87,7 @@ present_push kind rs r old new are adds = record {
 
 -- after a receipt was added, what is kept for look-ups agrees with the receipts
 pub held_push : (old new : FolderReceipts) (s : ComparedReceipt) → IsHeld old → IsSide s → new.receipts.items ≡ old.receipts.items ++ s ∷ []
-    → ((n : ℕ) → slice_index_or new.numbers.items n false ≡ (is_number (plain_number (receipt_of s).index) n || slice_index_or old.numbers.items n false))
+    → ((n : ℕ) → slice_index_or new.noted_members.items n false ≡ (is_number (plain_number (receipt_of s).index) n || slice_index_or old.noted_members.items n false))
     → AddsIf Resident (receipt_of s) (length old.receipts.items) old.residents new.residents
     → AddsIf Programme (receipt_of s) (length old.receipts.items) old.programmes new.programmes → IsHeld new
 held_push old new s held side sides numbers residents programmes =
@@ -107,7 +107,7 @@ receipt_is h k side within is = receipt_there h k side within ∙ ap receipt_of 
 
 -- the look-up of a member's name gives the number of the member's receipt
 pub file_is : (kind : Kind) (rs : List Receipt) (there : PresentMembers) (name : List ℕ) → ArePresent kind rs there
-    → file_in there.files.items (number_in there.names name) ≡ file_named kind rs name
+    → file_in there.file_numbers.items (number_in there.names name) ≡ file_named kind rs name
 file_is kind rs there name are = ap₂ (λ (files : List ℕ) (names : Cells). file_in files (number_in names name)) are.files_are are.names_are
 
 -- a receipt past the last one counts as empty and lists nobody

@@ -29,12 +29,12 @@ receipts_of h = map receipt_of h.receipts.items
 -- receipts
 pub record ArePresent (kind : Kind) (rs : List Receipt) (there : PresentMembers) : Type 0 where
   pub names_are : there.names ≡ names_of kind rs
-  pub files_are : there.files.items ≡ files_from kind 0 rs
+  pub files_are : there.file_numbers.items ≡ files_from kind 0 rs
 
 -- what is kept for looking things up agrees with the receipts: the parts of each receipt, the
 -- members' numbers, and the names of both sides
 pub record IsHeld (h : FolderReceipts) : Type 0 where
   pub each : All IsSide h.receipts.items
-  pub numbers_are : (n : ℕ) → slice_index_or h.numbers.items n false ≡ has_number (receipts_of h) n
+  pub numbers_are : (n : ℕ) → slice_index_or h.noted_members.items n false ≡ has_number (receipts_of h) n
   pub residents_are : ArePresent Resident (receipts_of h) h.residents
   pub programmes_are : ArePresent Programme (receipts_of h) h.programmes

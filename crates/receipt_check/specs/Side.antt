@@ -12,5 +12,5 @@ receipt_of s = content s.contents
 -- the kept list and last place are those of the receipt
 pub record IsSide (s : ComparedReceipt) : Type 0 where
   pub list_is : s.list ≡ fields_in s.contents.list.now
-  pub last_is : s.last_member_place ≡ last_place (content s.contents)
-  pub last_within : IfSome s.last_member_place (λ k. k < 2 ^ 63)
+  pub last_is : s.last_member_position ≡ last_place (content s.contents)
+  pub last_within : IfSome s.last_member_position (λ k. k < 2 ^ 63)

@@ -29,14 +29,14 @@ pub(crate) const LONGEST_RECEIPT: usize = 8_000_000;
 #[tactic(auto, unfolding(crate::specs::Faults::text_fault))]
 pub(crate) fn checked_contents<'r, 'a>(
     alloc: Global,
-    keys: RandomState,
+    hash_keys: RandomState,
     text: &[u8],
     rows: &'r [Vec<&'a [u8]>],
     lists_root: &[u8; 32],
     result_root: Option<&[u8; 32]>,
 ) -> Result<Result<(ReceiptContents<'r, 'a>, Texts), Fault>, AllocError>
     requires { rows_in rows.now ≡ form.split_rows text.now }
-    ensures { IfOk result (λ answer. MatchResult answer
+    ensures { IfOk result (λ check_result. MatchResult check_result
         (λ contents_and_list. (faults.text_fault lists_root.now
         (option_map (λ root. root.now) result_root.entry) text.now ≡ None)
         × (content contents_and_list.0 ≡ receipt.read (form.split_rows text.now))
@@ -49,7 +49,7 @@ pub(crate) fn checked_contents<'r, 'a>(
     if let Some(fault) = shape_fault(alloc, lists_root, result_root, &contents, rows, text)? {
         return Ok(Err(fault));
     }
-    match checked_list(alloc, keys, lists_root, result_root, &contents)? {
+    match checked_list(alloc, hash_keys, lists_root, result_root, &contents)? {
         Ok(list) => Ok(Ok((contents, list))),
         Err(fault) => Ok(Err(fault)),
     }
@@ -58,12 +58,12 @@ pub(crate) fn checked_contents<'r, 'a>(
 // What the receipt with this text shows, in words, or the receipt's first fault.
 fn words_of(
     alloc: Global,
-    keys: RandomState,
+    hash_keys: RandomState,
     text: &[u8],
     lists_root: &[u8; 32],
     result_root: Option<&[u8; 32]>,
 ) -> Result<Result<Vec<u8>, Fault>, AllocError>
-    ensures { IfOk result (λ answer. MatchResult answer
+    ensures { IfOk result (λ check_result. MatchResult check_result
         (λ sentences. (faults.text_fault lists_root.now
         (option_map (λ root. root.now) result_root.entry) text.now ≡ None)
         × (sentences.items ≡ words.told (option_map (λ root. root.now) result_root.entry)
@@ -72,7 +72,14 @@ fn words_of(
         (option_map (λ root. root.now) result_root.entry) text.now ≡ Some fault)) }
 {
     let rows = split_rows(alloc, text)?;
-    match checked_contents(alloc, keys, text, rows.as_slice(), lists_root, result_root)? {
+    match checked_contents(
+        alloc,
+        hash_keys,
+        text,
+        rows.as_slice(),
+        lists_root,
+        result_root,
+    )? {
         Ok((contents, _)) => Ok(Ok(receipt_words(alloc, result_root, &contents)?)),
         Err(fault) => Ok(Err(fault)),
     }
@@ -97,11 +104,11 @@ fn answer_of<H: RandomSource>(
     if bytes.len() > LONGEST_RECEIPT {
         return Err(ReceiptFault::Wrong(row_fault(0, Wrong::Long)));
     }
-    let Ok(keys) = RandomState::new(rt) else {
+    let Ok(hash_keys) = RandomState::new(rt) else {
         return Err(ReceiptFault::Memory);
     };
     let text = plain_text(alloc, bytes)?;
-    match words_of(alloc, keys, text.as_slice(), lists_root, result_root)? {
+    match words_of(alloc, hash_keys, text.as_slice(), lists_root, result_root)? {
         Ok(sentences) => Ok(sentences),
         Err(fault) => Err(ReceiptFault::Wrong(fault)),
     }

@@ -35,17 +35,18 @@ pub(crate) fn short_text(alloc: Global, file: &[u8]) -> Result<Vec<u8>, AllocErr
 
 // The fault of a receipt whose number of members isn't the published number.
 fn members_fault(
-    lists: &Published,
-    outcome: &Published,
+    published_lists: &Published,
+    published_result: &Published,
     contents: &ReceiptContents,
 ) -> Option<Fault>
     ensures { result
-        ≡ pair.members_fault lists.now.members outcome.now.members (content contents.now) }
+        ≡ pair.members_fault published_lists.now.members published_result.now.members (content
+        contents.now) }
 {
-    if !is_number(contents.member_count, lists.members as usize) {
+    if !is_number(contents.member_count, published_lists.members as usize) {
         return Some(row_fault(1, Wrong::Members));
     }
-    if !is_number(contents.member_count, outcome.members as usize) {
+    if !is_number(contents.member_count, published_result.members as usize) {
         return Some(row_fault(contents.lists_end(), Wrong::Members));
     }
     None
@@ -55,37 +56,38 @@ fn members_fault(
 #[tactic(auto, unfolding(crate::specs::Pair::compared_fault))]
 pub(crate) fn checked_receipt<'r, 'a>(
     alloc: Global,
-    keys: RandomState,
-    lists: &Published,
-    outcome: &Published,
+    hash_keys: RandomState,
+    published_lists: &Published,
+    published_result: &Published,
     file: &[u8],
     text: &[u8],
     rows: &'r [Vec<&'a [u8]>],
 ) -> Result<Result<ComparedReceipt<'r, 'a>, Fault>, AllocError>
     requires text { text.now ≡ pair.short_text file.now }
     requires rows { rows_in rows.now ≡ form.split_rows text.now }
-    ensures { IfOk result (λ answer. MatchResult answer
-        (λ receipt. (pair.compared_fault lists.now.members lists.now.root outcome.now.members
-        outcome.now.root file.now ≡ None) × (receipt_of receipt ≡ content_of file.now)
+    ensures { IfOk result (λ check_result. MatchResult check_result
+        (λ receipt. (pair.compared_fault published_lists.now.members published_lists.now.root
+        published_result.now.members
+        published_result.now.root file.now ≡ None) × (receipt_of receipt ≡ content_of file.now)
         × IsSide receipt × (words.is_name (content_of file.now).name ≡ true))
-        (λ fault. pair.compared_fault lists.now.members lists.now.root outcome.now.members
-        outcome.now.root file.now ≡ Some fault)) }
+        (λ fault. pair.compared_fault published_lists.now.members published_lists.now.root
+        published_result.now.members published_result.now.root file.now ≡ Some fault)) }
 {
     if file.len() > LONGEST_RECEIPT {
         return Ok(Err(row_fault(0, Wrong::Long)));
     }
     let (contents, list) = match checked_contents(
         alloc,
-        keys,
+        hash_keys,
         text,
         rows,
-        &lists.root,
-        Some(&outcome.root),
+        &published_lists.root,
+        Some(&published_result.root),
     )? {
         Ok(contents_and_list) => contents_and_list,
         Err(fault) => return Ok(Err(fault)),
     };
-    match members_fault(lists, outcome, &contents) {
+    match members_fault(published_lists, published_result, &contents) {
         Some(fault) => Ok(Err(fault)),
         None => Ok(Ok(compared_receipt(contents, list))),
     }
@@ -106,24 +108,33 @@ fn kind_fault(wanted_kind: Kind, kind: Kind) -> Option<Fault>
 // fault.
 fn receipt_of_kind<'r, 'a>(
     alloc: Global,
-    keys: RandomState,
+    hash_keys: RandomState,
     kind: Kind,
-    lists: &Published,
-    outcome: &Published,
+    published_lists: &Published,
+    published_result: &Published,
     file: &[u8],
     text: &[u8],
     rows: &'r [Vec<&'a [u8]>],
 ) -> Result<Result<ComparedReceipt<'r, 'a>, Fault>, AllocError>
     requires text { text.now ≡ pair.short_text file.now }
     requires rows { rows_in rows.now ≡ form.split_rows text.now }
-    ensures { IfOk result (λ answer. MatchResult answer
-        (λ receipt. (pair.side_fault kind lists.now.members lists.now.root outcome.now.members
-        outcome.now.root file.now ≡ None) × (receipt_of receipt ≡ content_of file.now)
+    ensures { IfOk result (λ check_result. MatchResult check_result
+        (λ receipt. (pair.side_fault kind published_lists.now.members published_lists.now.root
+        published_result.now.members
+        published_result.now.root file.now ≡ None) × (receipt_of receipt ≡ content_of file.now)
         × IsSide receipt)
-        (λ fault. pair.side_fault kind lists.now.members lists.now.root outcome.now.members
-        outcome.now.root file.now ≡ Some fault)) }
+        (λ fault. pair.side_fault kind published_lists.now.members published_lists.now.root
+        published_result.now.members published_result.now.root file.now ≡ Some fault)) }
 {
-    let receipt = match checked_receipt(alloc, keys, lists, outcome, file, text, rows)? {
+    let receipt = match checked_receipt(
+        alloc,
+        hash_keys,
+        published_lists,
+        published_result,
+        file,
+        text,
+        rows,
+    )? {
         Ok(receipt) => receipt,
         Err(fault) => return Ok(Err(fault)),
     };
@@ -137,18 +148,20 @@ fn receipt_of_kind<'r, 'a>(
 // receipt's number.
 fn pair_of(
     alloc: Global,
-    keys: RandomState,
-    lists: &Published,
-    outcome: &Published,
+    hash_keys: RandomState,
+    published_lists: &Published,
+    published_result: &Published,
     resident: &[u8],
     programme: &[u8],
 ) -> Result<(Vec<u8>, bool), CompareFault>
     ensures { MatchResult result
-        (λ sentence. (pair_fault lists.now outcome.now resident.now programme.now ≡ None)
+        (λ sentence. (pair_fault published_lists.now published_result.now resident.now programme.now
+        ≡ None)
         × (sentence.0.items ≡ pair.pair_words (content_of resident.now) (content_of programme.now))
         × (sentence.1
         ≡ not (is_some (pair.difference (content_of resident.now) (content_of programme.now)))))
-        (IsCompareFault (pair_fault lists.now outcome.now resident.now programme.now)) }
+        (IsCompareFault (pair_fault published_lists.now published_result.now resident.now
+        programme.now)) }
 {
     let (resident_text, programme_text) = (
         short_text(alloc, resident)?,
@@ -159,10 +172,10 @@ fn pair_of(
     let (text, rows) = (resident_text.as_slice(), resident_rows.as_slice());
     let resident_receipt = match receipt_of_kind(
         alloc,
-        keys,
+        hash_keys,
         Kind::Resident,
-        lists,
-        outcome,
+        published_lists,
+        published_result,
         resident,
         text,
         rows,
@@ -173,10 +186,10 @@ fn pair_of(
     let (text, rows) = (programme_text.as_slice(), programme_rows.as_slice());
     let programme_receipt = match receipt_of_kind(
         alloc,
-        keys,
+        hash_keys,
         Kind::Programme,
-        lists,
-        outcome,
+        published_lists,
+        published_result,
         programme,
         text,
         rows,
@@ -200,27 +213,35 @@ fn pair_of(
 pub fn serve_pair<W: Write, H: RandomSource>(
     rt: &H,
     alloc: Global,
-    lists: &Published,
-    outcome: &Published,
+    published_lists: &Published,
+    published_result: &Published,
     resident: &[u8],
     programme: &[u8],
     writer: &mut W,
 ) -> Result<bool, CompareFault>
     ensures good { OnOk result
-        (pair_fault lists.now outcome.now resident.now programme.now ≡ None) }
+        (pair_fault published_lists.now published_result.now resident.now programme.now ≡ None) }
     ensures told { OnOk result (Appends (W.contents writer.old) (W.contents writer.new)
         (pair.pair_words (content_of resident.now) (content_of programme.now))) }
     ensures agree { IfOk result (λ agree. agree
         ≡ not (is_some (pair.difference (content_of resident.now) (content_of programme.now)))) }
     ensures fault { IfErr result
-        (IsCompareFault (pair_fault lists.now outcome.now resident.now programme.now)) }
+        (IsCompareFault (pair_fault published_lists.now published_result.now resident.now
+        programme.now)) }
     ensures unwritten { IfErr result (λ fault.
         fault ≢ CompareFault.Write → writer.new ≡ writer.old) }
 {
-    let Ok(keys) = RandomState::new(rt) else {
+    let Ok(hash_keys) = RandomState::new(rt) else {
         return Err(CompareFault::Memory);
     };
-    let (text, agree) = pair_of(alloc, keys, lists, outcome, resident, programme)?;
+    let (text, agree) = pair_of(
+        alloc,
+        hash_keys,
+        published_lists,
+        published_result,
+        resident,
+        programme,
+    )?;
     match writer.write_all(text.as_slice()) {
         Ok(()) => Ok(agree),
         Err(_) => Err(CompareFault::Write),

@@ -52,12 +52,12 @@ pub(crate) fn is_number(digits: &[u8], number: usize) -> bool
 }
 
 // Whether the digits write this place, counted from 1. Without a place there may be no digits.
-fn is_place(digits: &[u8], place: Option<usize>) -> bool
-    requires { IfSome place (λ place. place < 2 ^ 63) }
-    ensures { result ≡ pair.is_place digits.now place }
+fn is_position(digits: &[u8], position: Option<usize>) -> bool
+    requires { IfSome position (λ position. position < 2 ^ 63) }
+    ensures { result ≡ pair.is_place digits.now position }
 {
-    match place {
-        Some(place) => is_number(digits, place + 1),
+    match position {
+        Some(position) => is_number(digits, position + 1),
         None => digits.len() == 0,
     }
 }
@@ -80,7 +80,7 @@ fn full_difference(
     requires programme { IsSide programme.now }
     ensures { result ≡ pair.full_difference (fields_in answer.now) rank (receipt_of programme.now) }
 {
-    if !is_place(field(answer, 1), rank) {
+    if !is_position(field(answer, 1), rank) {
         return Some(Difference::Rank);
     }
     if !is(field(answer, 3), programme.contents.quota) {
@@ -92,7 +92,7 @@ fn full_difference(
     ) {
         return Some(Difference::Filled);
     }
-    if !is_place(field(answer, 2), programme.last_member_place) {
+    if !is_position(field(answer, 2), programme.last_member_position) {
         return Some(Difference::Last);
     }
     None
@@ -110,7 +110,7 @@ fn answer_difference(
         (receipt_of resident.now) (receipt_of programme.now) }
 {
     let withdrawn = is_withdrawn(resident, programme);
-    let rank = programme.place(resident.contents.name);
+    let rank = programme.position(resident.contents.name);
     if says(answer, b"withdrawn") != withdrawn {
         return Some(Difference::Withdrawn);
     }
@@ -136,7 +136,7 @@ pub(crate) fn first_difference(
     requires programme { IsSide programme.now }
     ensures { result ≡ pair.difference (receipt_of resident.now) (receipt_of programme.now) }
 {
-    match resident.place(programme.contents.name) {
+    match resident.position(programme.contents.name) {
         Some(choice) => answer_difference(resident.contents.answer(choice), resident, programme),
         None if programme.has(resident.contents.name) => Some(Difference::Unlisted),
         None => None,

@@ -11,14 +11,14 @@ use crate::names::names_in;
 use crate::opening::{openings_fault, plain_number};
 use crate::reasons::wrong_reason;
 use crate::rows::cell;
-use crate::shown::{ReceiptContents, has_real_name, list_place, real_name_place};
+use crate::shown::{ReceiptContents, has_real_name, list_row, real_name_row};
 use crate::wrong::{Fault, Wrong, row_fault};
 use docket_names::{Texts, is_name};
 use std::alloc::{AllocError, Global};
 use std::hash::RandomState;
 
 // The place in the receipt of this row of the result's text, counted from 0.
-fn result_place(contents: &ReceiptContents, row: usize) -> usize
+fn result_row(contents: &ReceiptContents, row: usize) -> usize
     requires { row < 2 ^ 63 }
     ensures { result ≡ faults.result_place (content contents.now) row }
 {
@@ -31,7 +31,7 @@ fn reasons_fault(contents: &ReceiptContents, own_choice: Option<usize>) -> Optio
     ensures { result ≡ faults.reasons_fault (content contents.now) own_choice }
 {
     match wrong_reason(contents, own_choice) {
-        Some((choice, defect)) => Some(row_fault(result_place(contents, choice + 1), defect)),
+        Some((choice, defect)) => Some(row_fault(result_row(contents, choice + 1), defect)),
         None => None,
     }
 }
@@ -46,11 +46,11 @@ fn resident_fault(contents: &ReceiptContents, list: &Texts) -> Option<Fault>
         return reasons_fault(contents, None);
     };
     if contents.withdrawn {
-        return Some(row_fault(result_place(contents, 0), Wrong::Gone));
+        return Some(row_fault(result_row(contents, 0), Wrong::Gone));
     }
     match list.find(own_programme) {
-        None => Some(row_fault(result_place(contents, 0), Wrong::NotListed)),
-        Some(place) => reasons_fault(contents, Some(place)),
+        None => Some(row_fault(result_row(contents, 0), Wrong::NotListed)),
+        Some(position) => reasons_fault(contents, Some(position)),
     }
 }
 
@@ -72,7 +72,7 @@ pub(crate) fn members_in<'r, 'a>(
 // The first fault among the residents of a programme with this list.
 fn members_fault(
     alloc: Global,
-    keys: RandomState,
+    hash_keys: RandomState,
     contents: &ReceiptContents,
     list: &Texts,
 ) -> Result<Option<Fault>, AllocError>
@@ -80,16 +80,16 @@ fn members_fault(
     ensures { IfOk result (λ fault. fault ≡ faults.members_fault (content contents.now)) }
 {
     let member_names = members_in(alloc, contents)?;
-    match names_in(alloc, keys, Some(list), member_names.as_slice())? {
+    match names_in(alloc, hash_keys, Some(list), member_names.as_slice())? {
         Ok(_) => Ok(None),
-        Err((member, defect)) => Ok(Some(row_fault(result_place(contents, member + 1), defect))),
+        Err((member, defect)) => Ok(Some(row_fault(result_row(contents, member + 1), defect))),
     }
 }
 
 // The first fault of the result of a programme with this list.
 fn programme_fault(
     alloc: Global,
-    keys: RandomState,
+    hash_keys: RandomState,
     contents: &ReceiptContents,
     list: &Texts,
 ) -> Result<Option<Fault>, AllocError>
@@ -101,18 +101,18 @@ fn programme_fault(
         return Ok(Some(row_fault(3, Wrong::Numbers)));
     };
     if (quota as usize) < contents.detail_rows.len() {
-        return Ok(Some(row_fault(result_place(contents, 0), Wrong::Numbers)));
+        return Ok(Some(row_fault(result_row(contents, 0), Wrong::Numbers)));
     }
     if contents.withdrawn && contents.detail_rows.len() > 0 {
-        return Ok(Some(row_fault(result_place(contents, 0), Wrong::Gone)));
+        return Ok(Some(row_fault(result_row(contents, 0), Wrong::Gone)));
     }
-    members_fault(alloc, keys, contents, list)
+    members_fault(alloc, hash_keys, contents, list)
 }
 
 // The first fault of the result of a member with this list.
 fn result_fault(
     alloc: Global,
-    keys: RandomState,
+    hash_keys: RandomState,
     contents: &ReceiptContents,
     list: &Texts,
 ) -> Result<Option<Fault>, AllocError>
@@ -121,7 +121,7 @@ fn result_fault(
         ≡ faults.result_fault_of contents.now.kind (content contents.now)) }
 {
     match contents.kind {
-        Kind::Programme => programme_fault(alloc, keys, contents, list),
+        Kind::Programme => programme_fault(alloc, hash_keys, contents, list),
         Kind::Resident => Ok(resident_fault(contents, list)),
     }
 }
@@ -133,17 +133,17 @@ fn real_name_fault(alloc: Global, contents: &ReceiptContents) -> Result<Option<F
     if !has_real_name(contents.name_pieces) || is_real(alloc, contents.name_pieces)? {
         return Ok(None);
     }
-    let place = real_name_place(contents.has_list, contents.withdrawn);
-    Ok(Some(row_fault(place, Wrong::RealName)))
+    let row_index = real_name_row(contents.has_list, contents.withdrawn);
+    Ok(Some(row_fault(row_index, Wrong::RealName)))
 }
 
 // The names on a member's list, or the first fault of the member's name, quota, list and real name.
 fn lists_in(
     alloc: Global,
-    keys: RandomState,
+    hash_keys: RandomState,
     contents: &ReceiptContents,
 ) -> Result<Result<Texts, Fault>, AllocError>
-    ensures { IfOk result (λ answer. MatchResult answer
+    ensures { IfOk result (λ check_result. MatchResult check_result
         (λ list. (list ≡ fields_in contents.now.list.now)
         × (faults.lists_fault (content contents.now) ≡ None)
         × (words.is_name contents.now.name.now ≡ true))
@@ -155,9 +155,9 @@ fn lists_in(
     if contents.kind.is_programme() && plain_number(contents.quota).is_none() {
         return Ok(Err(row_fault(3, Wrong::Numbers)));
     }
-    let list = match names_in(alloc, keys, None, contents.list)? {
+    let list = match names_in(alloc, hash_keys, None, contents.list)? {
         Ok(list) => list,
-        Err((_, defect)) => return Ok(Err(row_fault(list_place(contents.has_list), defect))),
+        Err((_, defect)) => return Ok(Err(row_fault(list_row(contents.has_list), defect))),
     };
     match real_name_fault(alloc, contents)? {
         Some(fault) => Ok(Err(fault)),
@@ -169,12 +169,12 @@ fn lists_in(
 #[tactic(auto, unfolding(crate::specs::Faults::value_fault))]
 pub(crate) fn checked_list(
     alloc: Global,
-    keys: RandomState,
+    hash_keys: RandomState,
     lists_root: &[u8; 32],
     result_root: Option<&[u8; 32]>,
     contents: &ReceiptContents,
 ) -> Result<Result<Texts, Fault>, AllocError>
-    ensures { IfOk result (λ answer. MatchResult answer
+    ensures { IfOk result (λ check_result. MatchResult check_result
         (λ list. (list ≡ fields_in contents.now.list.now) × (faults.value_fault lists_root.now
         (option_map (λ root. root.now) result_root.entry) (content contents.now) ≡ None)
         × (words.is_name contents.now.name.now ≡ true))
@@ -184,12 +184,12 @@ pub(crate) fn checked_list(
     if let Some(fault) = openings_fault(alloc, lists_root, result_root, contents)? {
         return Ok(Err(fault));
     }
-    let list = match lists_in(alloc, keys, contents)? {
+    let list = match lists_in(alloc, hash_keys, contents)? {
         Ok(list) => list,
         Err(fault) => return Ok(Err(fault)),
     };
     if result_root.is_some() {
-        if let Some(fault) = result_fault(alloc, keys, contents, &list)? {
+        if let Some(fault) = result_fault(alloc, hash_keys, contents, &list)? {
             return Ok(Err(fault));
         }
     }

@@ -26,47 +26,47 @@ use std::hash::RandomState;
 pub(crate) struct FolderReceipts<'r, 'a> {
     receipts: Vec<ComparedReceipt<'r, 'a>>,
     // For each member's number, whether the member's receipt is there.
-    numbers: Vec<bool>,
+    noted_members: Vec<bool>,
     residents: PresentMembers,
     programmes: PresentMembers,
 }
 
 // Whether this number is noted.
-fn is_noted(noted_numbers: &[bool], number: usize) -> bool
-    ensures { result ≡ slice_index_or noted_numbers.now number false }
+fn is_noted(noted_members: &[bool], number: usize) -> bool
+    ensures { result ≡ slice_index_or noted_members.now number false }
 {
-    match noted_numbers.get(number) {
+    match noted_members.get(number) {
         Some(noted) => *noted,
         None => false,
     }
 }
 
 // Notes a number.
-fn set_noted(noted_numbers: &mut Vec<bool>, number: usize) -> Result<(), AllocError>
-    ensures { OnOk result ((m : ℕ) → slice_index_or noted_numbers.new.items m false
-        ≡ (nat_eq m number || slice_index_or noted_numbers.old.items m false)) }
+fn set_noted(noted_members: &mut Vec<bool>, number: usize) -> Result<(), AllocError>
+    ensures { OnOk result ((m : ℕ) → slice_index_or noted_members.new.items m false
+        ≡ (nat_eq m number || slice_index_or noted_members.old.items m false)) }
 {
-    if number >= noted_numbers.len() {
+    if number >= noted_members.len() {
         let Some(len) = number.checked_add(1) else {
             return Err(AllocError);
         };
-        noted_numbers.resize(len, false)?;
+        noted_members.resize(len, false)?;
     }
-    noted_numbers[number] = true;
+    noted_members[number] = true;
     Ok(())
 }
 
 impl<'r, 'a> FolderReceipts<'r, 'a> {
     /// A folder without receipts.
-    pub(crate) fn new(alloc: Global, keys: RandomState) -> FolderReceipts<'r, 'a>
+    pub(crate) fn new(alloc: Global, hash_keys: RandomState) -> FolderReceipts<'r, 'a>
         ensures none { receipts_of result ≡ [] }
         ensures held { IsHeld result }
     {
         FolderReceipts {
             receipts: Vec::new(alloc),
-            numbers: Vec::new(alloc),
-            residents: PresentMembers::new(alloc, keys),
-            programmes: PresentMembers::new(alloc, keys),
+            noted_members: Vec::new(alloc),
+            residents: PresentMembers::new(alloc, hash_keys),
+            programmes: PresentMembers::new(alloc, hash_keys),
         }
     }
 
@@ -77,7 +77,7 @@ impl<'r, 'a> FolderReceipts<'r, 'a> {
             ≡ folder.has_number_if (receipts_of self.now) (plain_number_in digits.now) }
     {
         match plain_number(digits) {
-            Some(number) => is_noted(self.numbers.as_slice(), number as usize),
+            Some(number) => is_noted(self.noted_members.as_slice(), number as usize),
             None => false,
         }
     }
@@ -107,12 +107,12 @@ impl<'r, 'a> FolderReceipts<'r, 'a> {
         ensures sides { self.new.receipts ≡ self.old.receipts }
         ensures residents { self.new.residents ≡ self.old.residents }
         ensures programmes { self.new.programmes ≡ self.old.programmes }
-        ensures noted { OnOk result ((m : ℕ) → slice_index_or self.new.numbers.items m false
+        ensures noted { OnOk result ((m : ℕ) → slice_index_or self.new.noted_members.items m false
             ≡ (pair.is_number (plain_number_in digits.now) m
-            || slice_index_or self.old.numbers.items m false)) }
+            || slice_index_or self.old.noted_members.items m false)) }
     {
         match plain_number(digits) {
-            Some(number) => set_noted(&mut self.numbers, number as usize),
+            Some(number) => set_noted(&mut self.noted_members, number as usize),
             None => Ok(()),
         }
     }
@@ -127,10 +127,10 @@ impl<'r, 'a> FolderReceipts<'r, 'a> {
             (receipts_of self.new ≡ receipts_of self.old ++ receipt_of receipt.entry ∷ []) }
         ensures held { OnOk result (IsHeld self.new) }
     {
-        let file = self.receipts.len();
+        let file_number = self.receipts.len();
         match receipt.contents.kind {
-            Kind::Programme => self.programmes.add(receipt.contents.name, file)?,
-            Kind::Resident => self.residents.add(receipt.contents.name, file)?,
+            Kind::Programme => self.programmes.add(receipt.contents.name, file_number)?,
+            Kind::Resident => self.residents.add(receipt.contents.name, file_number)?,
         }
         self.note_number(receipt.contents.member_index)?;
         self.receipts.push(receipt)?;
@@ -151,7 +151,7 @@ impl<'r, 'a> FolderReceipts<'r, 'a> {
     {
         let list = self.receipts[resident_file].contents.list;
         for k in 0..list.len() {
-            match self.programmes.file(field(list, k)) {
+            match self.programmes.file_number(field(list, k)) {
                 Some(programme_file) => pairs.push((resident_file, programme_file))?,
                 None => {}
             }
@@ -205,7 +205,7 @@ impl<'r, 'a> FolderReceipts<'r, 'a> {
     {
         let contents = self.receipts[programme_file].contents;
         for k in 0..contents.detail_rows.len() {
-            match self.residents.file(cell(contents.detail_rows, k, 1)) {
+            match self.residents.file_number(cell(contents.detail_rows, k, 1)) {
                 Some(resident_file) => self.push_unlisted(
                     pairs,
                     resident_file,
@@ -268,10 +268,10 @@ impl<'r, 'a> FolderReceipts<'r, 'a> {
     ) -> Result<Vec<(usize, usize)>, AllocError>
         requires held { IsHeld self.now }
         requires pairs { pairs.now ≡ folder.pairs_of (receipts_of self.now) }
-        ensures { IfOk result (λ differing. differing.items
+        ensures { IfOk result (λ differing_pairs. differing_pairs.items
             ≡ folder.differing_pairs (receipts_of self.now)) }
     {
-        let mut differing = Vec::new(alloc);
+        let mut differing_pairs = Vec::new(alloc);
         for k in 0..pairs.len() {
             let (resident_file, programme_file) = pairs[k];
             if first_difference(
@@ -280,17 +280,21 @@ impl<'r, 'a> FolderReceipts<'r, 'a> {
             )
             .is_some()
             {
-                differing.push((resident_file, programme_file))?;
+                differing_pairs.push((resident_file, programme_file))?;
             }
         }
-        Ok(differing)
+        Ok(differing_pairs)
     }
 
     // Adds a sentence on each pair that differs.
-    fn put_differing(&self, text: &mut Vec<u8>, pairs: &[(usize, usize)]) -> Result<(), AllocError>
+    fn put_differing_pairs(
+        &self,
+        sentences: &mut Vec<u8>,
+        pairs: &[(usize, usize)],
+    ) -> Result<(), AllocError>
         requires held { IsHeld self.now }
         requires pairs { pairs.now ≡ folder.differing_pairs (receipts_of self.now) }
-        ensures { OnOk result (Grows text.old text.new
+        ensures { OnOk result (Grows sentences.old sentences.new
             (flat_map (folder.words_at (receipts_of self.now)) pairs.now)) }
     {
         for k in 0..pairs.len() {
@@ -300,7 +304,7 @@ impl<'r, 'a> FolderReceipts<'r, 'a> {
                 &self.receipts[programme_file],
             );
             put_pair(
-                text,
+                sentences,
                 first_difference(resident, programme),
                 resident,
                 programme,
@@ -314,7 +318,7 @@ impl<'r, 'a> FolderReceipts<'r, 'a> {
         requires held { IsHeld self.now }
         ensures { result ≡ folder.is_whole member_count (receipts_of self.now) }
     {
-        (0..member_count).all(|number| is_noted(self.numbers.as_slice(), number))
+        (0..member_count).all(|number| is_noted(self.noted_members.as_slice(), number))
     }
 
     // Whether the folder has a receipt of each member numbered below `member_count`, and no pair
@@ -332,74 +336,74 @@ impl<'r, 'a> FolderReceipts<'r, 'a> {
     pub(crate) fn put_folder_text(
         &self,
         alloc: Global,
-        text: &mut Vec<u8>,
+        sentences: &mut Vec<u8>,
         member_count: usize,
     ) -> Result<bool, AllocError>
         requires held { IsHeld self.now }
-        ensures text { OnOk result (Grows text.old text.new
+        ensures text { OnOk result (Grows sentences.old sentences.new
             (folder.folder_text member_count (receipts_of self.now))) }
         ensures stable { IfOk result (λ stable. stable
             ≡ folder.is_stable member_count (receipts_of self.now)) }
     {
         let pairs = self.pairs(alloc)?;
         let differing_pairs = self.differing_pairs(alloc, pairs.as_slice())?;
-        self.put_differing(text, differing_pairs.as_slice())?;
+        self.put_differing_pairs(sentences, differing_pairs.as_slice())?;
         let present_count = self.receipts.as_slice().len();
         let (pair_count, differing_count) = (
             pairs.as_slice().len(),
             differing_pairs.as_slice().len(),
         );
         put_counts(
-            text,
+            sentences,
             present_count,
             member_count,
             pair_count,
             differing_count,
         )?;
         let stable = self.is_stable(member_count, differing_pairs.as_slice());
-        put_stable(text, stable)?;
+        put_stable(sentences, stable)?;
         Ok(stable)
     }
 }
 
 // Adds two numbers, with words between them and after them.
 fn put_two_numbers(
-    text: &mut Vec<u8>,
+    sentences: &mut Vec<u8>,
     first_number: usize,
     middle_words: &[u8],
     second_number: usize,
     end_words: &[u8],
 ) -> Result<(), AllocError>
-    ensures { OnOk result (Grows text.old text.new
+    ensures { OnOk result (Grows sentences.old sentences.new
         (folder.two_numbers first_number middle_words.now second_number end_words.now)) }
 {
-    put_number(text, first_number)?;
-    put(text, middle_words)?;
-    put_number(text, second_number)?;
-    put(text, end_words)
+    put_number(sentences, first_number)?;
+    put(sentences, middle_words)?;
+    put_number(sentences, second_number)?;
+    put(sentences, end_words)
 }
 
 // Adds how many of all members have a receipt in the folder, how many pairs were compared, and how many
 // pairs differ.
 fn put_counts(
-    text: &mut Vec<u8>,
+    sentences: &mut Vec<u8>,
     present_count: usize,
     member_count: usize,
     pair_count: usize,
     differing_count: usize,
 ) -> Result<(), AllocError>
-    ensures { OnOk result (Grows text.old text.new
+    ensures { OnOk result (Grows sentences.old sentences.new
         (folder.counts_text present_count member_count pair_count differing_count)) }
 {
     put_two_numbers(
-        text,
+        sentences,
         present_count,
         b" of ",
         member_count,
         b" members are there, and ",
     )?;
     put_two_numbers(
-        text,
+        sentences,
         pair_count,
         b" pairs were compared: ",
         differing_count,
@@ -408,11 +412,11 @@ fn put_counts(
 }
 
 // Adds the sentence that the placement is stable, if it is.
-fn put_stable(text: &mut Vec<u8>, stable: bool) -> Result<(), AllocError>
-    ensures { OnOk result (Grows text.old text.new (folder.stable_text stable)) }
+fn put_stable(sentences: &mut Vec<u8>, stable: bool) -> Result<(), AllocError>
+    ensures { OnOk result (Grows sentences.old sentences.new (folder.stable_text stable)) }
 {
     if stable {
-        return put(text, b"The placement is stable.\n");
+        return put(sentences, b"The placement is stable.\n");
     }
     Ok(())
 }

@@ -53,17 +53,17 @@ pub(crate) fn add(seen_names: &mut Texts, name: &[u8]) -> Result<(), AllocError>
 /// wrong with it.
 pub(crate) fn names_in(
     alloc: Global,
-    keys: RandomState,
+    hash_keys: RandomState,
     list: Option<&Texts>,
     names: &[&[u8]],
 ) -> Result<Result<Texts, (usize, Wrong)>, AllocError>
-    ensures { IfOk result (λ answer. MatchResult answer
+    ensures { IfOk result (λ check_result. MatchResult check_result
         (λ seen_names. (seen_names ≡ fields_in names.now) × (faults.wrong_name
         (option_map (λ list. list.now) list.entry) (fields_in names.now) ≡ None))
         (λ name_fault. (name_fault.0 < length names.now) × (faults.wrong_name
         (option_map (λ list. list.now) list.entry) (fields_in names.now) ≡ Some name_fault))) }
 {
-    let mut seen_names = Texts::new(alloc, keys);
+    let mut seen_names = Texts::new(alloc, hash_keys);
     for k in 0..names.len() {
         let name = field(names, k);
         if let Some(defect) = name_defect(list, &seen_names, name) {

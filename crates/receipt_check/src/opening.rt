@@ -98,12 +98,12 @@ fn opening_defect(
 }
 
 // The fault of the row at this place, if something is wrong with the row.
-fn fault_at(place: usize, defect: Option<Wrong>) -> Option<Fault>
-    requires { place < 2 ^ 63 }
-    ensures { result ≡ faults.fault_at place defect }
+fn fault_at(row_index: usize, defect: Option<Wrong>) -> Option<Fault>
+    requires { row_index < 2 ^ 63 }
+    ensures { result ≡ faults.fault_at row_index defect }
 {
     match defect {
-        Some(defect) => Some(row_fault(place, defect)),
+        Some(defect) => Some(row_fault(row_index, defect)),
         None => None,
     }
 }

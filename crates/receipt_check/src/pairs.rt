@@ -18,24 +18,28 @@ use std::io::Write;
 use std::random::RandomSource;
 
 // The text of each file's receipt, as it was printed.
-fn texts_of(alloc: Global, files: &[Vec<u8>]) -> Result<Vec<Vec<u8>>, AllocError>
-    ensures { IfOk result (λ texts. bytes_in texts.items
-        ≡ map pair.short_text (bytes_in files.now)) }
+fn texts_of(alloc: Global, receipt_files: &[Vec<u8>]) -> Result<Vec<Vec<u8>>, AllocError>
+    ensures { IfOk result (λ receipt_texts. bytes_in receipt_texts.items
+        ≡ map pair.short_text (bytes_in receipt_files.now)) }
 {
-    let mut texts = Vec::new(alloc);
-    for k in 0..files.len() {
-        texts.push(short_text(alloc, files[k].as_slice())?)?;
+    let mut receipt_texts = Vec::new(alloc);
+    for k in 0..receipt_files.len() {
+        receipt_texts.push(short_text(alloc, receipt_files[k].as_slice())?)?;
     }
-    Ok(texts)
+    Ok(receipt_texts)
 }
 
 // The rows of each text.
-fn rows_in<'a>(alloc: Global, texts: &'a [Vec<u8>]) -> Result<Vec<Vec<Vec<&'a [u8]>>>, AllocError>
-    ensures { IfOk result (λ rows. rows_of rows.items ≡ map form.split_rows (bytes_in texts.now)) }
+fn rows_in<'a>(
+    alloc: Global,
+    receipt_texts: &'a [Vec<u8>],
+) -> Result<Vec<Vec<Vec<&'a [u8]>>>, AllocError>
+    ensures { IfOk result (λ rows. rows_of rows.items ≡ map form.split_rows (bytes_in
+        receipt_texts.now)) }
 {
     let mut rows = Vec::new(alloc);
-    for k in 0..texts.len() {
-        rows.push(split_rows(alloc, texts[k].as_slice())?)?;
+    for k in 0..receipt_texts.len() {
+        rows.push(split_rows(alloc, receipt_texts[k].as_slice())?)?;
     }
     Ok(rows)
 }
@@ -44,24 +48,39 @@ fn rows_in<'a>(alloc: Global, texts: &'a [Vec<u8>]) -> Result<Vec<Vec<Vec<&'a [u
 #[tactic(auto, unfolding(crate::specs::Folder::folder_fault))]
 fn gather_receipts<'r, 'a>(
     alloc: Global,
-    keys: RandomState,
-    lists: &Published,
-    outcome: &Published,
-    files: &[Vec<u8>],
-    texts: &[Vec<u8>],
+    hash_keys: RandomState,
+    published_lists: &Published,
+    published_result: &Published,
+    receipt_files: &[Vec<u8>],
+    receipt_texts: &[Vec<u8>],
     rows: &'r [Vec<Vec<&'a [u8]>>],
 ) -> Result<FolderReceipts<'r, 'a>, CompareFault>
-    requires texts { bytes_in texts.now ≡ map pair.short_text (bytes_in files.now) }
-    requires rows { rows_of rows.now ≡ map form.split_rows (bytes_in texts.now) }
+    requires texts { bytes_in receipt_texts.now ≡ map pair.short_text (bytes_in receipt_files.now) }
+    requires rows { rows_of rows.now ≡ map form.split_rows (bytes_in receipt_texts.now) }
     ensures { MatchResult result
-        (λ receipts. (folder.folder_fault lists.now outcome.now (bytes_in files.now) ≡ None)
-        × (receipts_of receipts ≡ folder.contents_of (bytes_in files.now)) × IsHeld receipts)
-        (IsCompareFault (folder.folder_fault lists.now outcome.now (bytes_in files.now))) }
+        (λ receipts. (folder.folder_fault published_lists.now published_result.now (bytes_in
+        receipt_files.now) ≡ None)
+        × (receipts_of receipts ≡ folder.contents_of (bytes_in receipt_files.now)) × IsHeld
+        receipts)
+        (IsCompareFault (folder.folder_fault published_lists.now published_result.now (bytes_in
+        receipt_files.now))) }
 {
-    let mut receipts = FolderReceipts::new(alloc, keys);
-    for k in 0..files.len() {
-        let (file, text, rows) = (files[k].as_slice(), texts[k].as_slice(), rows[k].as_slice());
-        let receipt = match checked_receipt(alloc, keys, lists, outcome, file, text, rows)? {
+    let mut receipts = FolderReceipts::new(alloc, hash_keys);
+    for k in 0..receipt_files.len() {
+        let (file, text, rows) = (
+            receipt_files[k].as_slice(),
+            receipt_texts[k].as_slice(),
+            rows[k].as_slice(),
+        );
+        let receipt = match checked_receipt(
+            alloc,
+            hash_keys,
+            published_lists,
+            published_result,
+            file,
+            text,
+            rows,
+        )? {
             Ok(receipt) => receipt,
             Err(fault) => return Err(CompareFault::Wrong(k, fault)),
         };
@@ -77,31 +96,33 @@ fn gather_receipts<'r, 'a>(
 // fault.
 fn pairs_text(
     alloc: Global,
-    keys: RandomState,
-    lists: &Published,
-    outcome: &Published,
-    files: &[Vec<u8>],
+    hash_keys: RandomState,
+    published_lists: &Published,
+    published_result: &Published,
+    receipt_files: &[Vec<u8>],
 ) -> Result<(Vec<u8>, bool), CompareFault>
     ensures { MatchResult result
-        (λ text. (folder.folder_fault lists.now outcome.now (bytes_in files.now) ≡ None)
-        × (text.0.items ≡ folder.folder_text lists.now.members
-        (folder.contents_of (bytes_in files.now)))
-        × (text.1 ≡ folder.is_stable lists.now.members (folder.contents_of (bytes_in files.now))))
-        (IsCompareFault (folder.folder_fault lists.now outcome.now (bytes_in files.now))) }
+        (λ text. (folder.folder_fault published_lists.now published_result.now (bytes_in
+        receipt_files.now) ≡ None) × (text.0.items ≡ folder.folder_text published_lists.now.members
+        (folder.contents_of (bytes_in receipt_files.now)))
+        × (text.1 ≡ folder.is_stable published_lists.now.members (folder.contents_of (bytes_in
+        receipt_files.now))))
+        (IsCompareFault (folder.folder_fault published_lists.now published_result.now (bytes_in
+        receipt_files.now))) }
 {
-    let texts = texts_of(alloc, files)?;
-    let rows = rows_in(alloc, texts.as_slice())?;
+    let receipt_texts = texts_of(alloc, receipt_files)?;
+    let rows = rows_in(alloc, receipt_texts.as_slice())?;
     let receipts = gather_receipts(
         alloc,
-        keys,
-        lists,
-        outcome,
-        files,
-        texts.as_slice(),
+        hash_keys,
+        published_lists,
+        published_result,
+        receipt_files,
+        receipt_texts.as_slice(),
         rows.as_slice(),
     )?;
     let mut text = Vec::new(alloc);
-    let stable = receipts.put_folder_text(alloc, &mut text, lists.members as usize)?;
+    let stable = receipts.put_folder_text(alloc, &mut text, published_lists.members as usize)?;
     Ok((text, stable))
 }
 
@@ -111,26 +132,36 @@ fn pairs_text(
 pub fn serve_pairs<W: Write, H: RandomSource>(
     rt: &H,
     alloc: Global,
-    lists: &Published,
-    outcome: &Published,
-    files: &[Vec<u8>],
+    published_lists: &Published,
+    published_result: &Published,
+    receipt_files: &[Vec<u8>],
     writer: &mut W,
 ) -> Result<bool, CompareFault>
     ensures good { OnOk result
-        (folder.folder_fault lists.now outcome.now (bytes_in files.now) ≡ None) }
+        (folder.folder_fault published_lists.now published_result.now (bytes_in receipt_files.now) ≡
+        None) }
     ensures told { OnOk result (Appends (W.contents writer.old) (W.contents writer.new)
-        (folder.folder_text lists.now.members (folder.contents_of (bytes_in files.now)))) }
+        (folder.folder_text published_lists.now.members (folder.contents_of (bytes_in
+        receipt_files.now)))) }
     ensures stable { IfOk result (λ stable. stable
-        ≡ folder.is_stable lists.now.members (folder.contents_of (bytes_in files.now))) }
+        ≡ folder.is_stable published_lists.now.members (folder.contents_of (bytes_in
+        receipt_files.now))) }
     ensures fault { IfErr result
-        (IsCompareFault (folder.folder_fault lists.now outcome.now (bytes_in files.now))) }
+        (IsCompareFault (folder.folder_fault published_lists.now published_result.now (bytes_in
+        receipt_files.now))) }
     ensures unwritten { IfErr result (λ fault.
         fault ≢ CompareFault.Write → writer.new ≡ writer.old) }
 {
-    let Ok(keys) = RandomState::new(rt) else {
+    let Ok(hash_keys) = RandomState::new(rt) else {
         return Err(CompareFault::Memory);
     };
-    let (text, stable) = pairs_text(alloc, keys, lists, outcome, files)?;
+    let (text, stable) = pairs_text(
+        alloc,
+        hash_keys,
+        published_lists,
+        published_result,
+        receipt_files,
+    )?;
     match writer.write_all(text.as_slice()) {
         Ok(()) => Ok(stable),
         Err(_) => Err(CompareFault::Write),

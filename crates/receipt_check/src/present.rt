@@ -14,18 +14,18 @@ use std::hash::RandomState;
 #[derive(Drop)]
 pub(crate) struct PresentMembers {
     names: Texts,
-    files: Vec<usize>,
+    file_numbers: Vec<usize>,
 }
 
 impl PresentMembers {
     /// A side without members.
-    pub(crate) fn new(alloc: Global, keys: RandomState) -> PresentMembers
+    pub(crate) fn new(alloc: Global, hash_keys: RandomState) -> PresentMembers
         ensures names { result.names ≡ [] }
-        ensures files { result.files.items ≡ [] }
+        ensures files { result.file_numbers.items ≡ [] }
     {
         PresentMembers {
-            names: Texts::new(alloc, keys),
-            files: Vec::new(alloc),
+            names: Texts::new(alloc, hash_keys),
+            file_numbers: Vec::new(alloc),
         }
     }
 
@@ -37,24 +37,25 @@ impl PresentMembers {
     }
 
     /// Adds a member, whose receipt is in this file.
-    pub(crate) fn add(&mut self, name: &[u8], file: usize) -> Result<(), AllocError>
+    pub(crate) fn add(&mut self, name: &[u8], file_number: usize) -> Result<(), AllocError>
         requires lawful { words.is_name name.now ≡ true }
         requires fresh { is_declared self.old.names name.now ≡ false }
         ensures names { OnOk result (self.new.names ≡ self.old.names ++ name.now ∷ []) }
-        ensures files { OnOk result (self.new.files.items ≡ self.old.files.items ++ file ∷ []) }
+        ensures files { OnOk result (self.new.file_numbers.items ≡ self.old.file_numbers.items ++
+            file_number ∷ []) }
     {
         add(&mut self.names, name)?;
-        self.files.push(file)?;
+        self.file_numbers.push(file_number)?;
         Ok(())
     }
 
     /// The number of the file with the receipt of the member with this name.
-    pub(crate) fn file(&self, name: &[u8]) -> Option<usize>
-        ensures { result ≡ folder.file_in self.now.files.items
+    pub(crate) fn file_number(&self, name: &[u8]) -> Option<usize>
+        ensures { result ≡ folder.file_in self.now.file_numbers.items
             (number_in self.now.names name.now) }
     {
         match self.names.find(name) {
-            Some(place) => self.files.get(place).copied(),
+            Some(position) => self.file_numbers.get(position).copied(),
             None => None,
         }
     }

@@ -25,8 +25,8 @@ fn comma_in(text: &[u8]) -> Option<usize>
 pub fn published_of(text: &[u8]) -> Option<Published>
     ensures { option_map row_of result ≡ published_in text.now }
 {
-    let comma_place = comma_in(text)?;
-    let members = plain_number(&text[..comma_place])?;
-    let root = digest_of(&text[comma_place + 1..])?;
+    let comma_index = comma_in(text)?;
+    let members = plain_number(&text[..comma_index])?;
+    let root = digest_of(&text[comma_index + 1..])?;
     Some(Published { members, root })
 }

@@ -98,13 +98,13 @@ fn can_be_after_own(answer: &[&[u8]]) -> bool
 
 // Whether a choice that stands so can have this answer; `withdrawn` says whether the resident is
 // withdrawn.
-fn can_have_answer(withdrawn: bool, place: ChoicePlace, answer: &[&[u8]]) -> bool
-    ensures { result ≡ faults.can_stand withdrawn place (fields_in answer.now) }
+fn can_have_answer(withdrawn: bool, choice_place: ChoicePlace, answer: &[&[u8]]) -> bool
+    ensures { result ≡ faults.can_stand withdrawn choice_place (fields_in answer.now) }
 {
     if withdrawn {
         return is_bare_answer(answer, b"withdrawn");
     }
-    match place {
+    match choice_place {
         ChoicePlace::BeforeOwn => can_be_before_own(answer),
         ChoicePlace::Own => is_bare_answer(answer, b"matched"),
         ChoicePlace::AfterOwn => can_be_after_own(answer),
@@ -112,10 +112,10 @@ fn can_have_answer(withdrawn: bool, place: ChoicePlace, answer: &[&[u8]]) -> boo
 }
 
 // What is wrong with an answer, if the choice can't have it.
-fn answer_defect(withdrawn: bool, place: ChoicePlace, answer: &[&[u8]]) -> Option<Wrong>
-    ensures { result ≡ faults.reason_wrong withdrawn place (fields_in answer.now) }
+fn answer_defect(withdrawn: bool, choice_place: ChoicePlace, answer: &[&[u8]]) -> Option<Wrong>
+    ensures { result ≡ faults.reason_wrong withdrawn choice_place (fields_in answer.now) }
 {
-    if can_have_answer(withdrawn, place, answer) {
+    if can_have_answer(withdrawn, choice_place, answer) {
         return None;
     }
     if is(field(answer, 0), b"full") {

@@ -58,7 +58,7 @@ fn has_list_in(rows: &[Vec<&[u8]>]) -> bool
 
 /// The place of the row with the member's list. For a programme without a list it is the place of
 /// the quota's row.
-pub(crate) fn list_place(has_list: bool) -> usize
+pub(crate) fn list_row(has_list: bool) -> usize
     ensures { result ≡ receipt.list_place has_list }
 {
     if has_list { 4 } else { 3 }
@@ -66,10 +66,10 @@ pub(crate) fn list_place(has_list: bool) -> usize
 
 /// The place of the row after the member's list and its withdrawal, where the row of a real name
 /// stands.
-pub(crate) fn real_name_place(has_list: bool, withdrawn: bool) -> usize
+pub(crate) fn real_name_row(has_list: bool, withdrawn: bool) -> usize
     ensures { result ≡ receipt.named_place has_list withdrawn }
 {
-    list_place(has_list) + if withdrawn { 2 } else { 1 }
+    list_row(has_list) + if withdrawn { 2 } else { 1 }
 }
 
 /// Whether there is a row of the real name.
@@ -83,10 +83,10 @@ pub(crate) fn has_real_name(name_pieces: &[&[u8]]) -> bool
 }
 
 /// The place of the row after the member's rows of the lists.
-pub(crate) fn lists_end_place(has_list: bool, withdrawn: bool, name_pieces: &[&[u8]]) -> usize
+pub(crate) fn lists_end_row(has_list: bool, withdrawn: bool, name_pieces: &[&[u8]]) -> usize
     ensures { result ≡ receipt.end_place has_list withdrawn (fields_in name_pieces.now) }
 {
-    real_name_place(has_list, withdrawn) + if has_real_name(name_pieces) { 1 } else { 0 }
+    real_name_row(has_list, withdrawn) + if has_real_name(name_pieces) { 1 } else { 0 }
 }
 
 // The list of the member.
@@ -97,21 +97,21 @@ fn list_in<'r, 'a>(rows: &'r [Vec<&'a [u8]>]) -> &'r [&'a [u8]]
     if kind_in(rows).is_programme() && !has_list {
         return &[];
     }
-    fields_from(rows, list_place(has_list), 2)
+    fields_from(rows, list_row(has_list), 2)
 }
 
 // Whether the member is withdrawn.
 fn withdrawn_in(rows: &[Vec<&[u8]>]) -> bool
     ensures { result ≡ receipt.gone_in (rows_in rows.now) }
 {
-    is(cell(rows, list_place(has_list_in(rows)) + 1, 0), b"W")
+    is(cell(rows, list_row(has_list_in(rows)) + 1, 0), b"W")
 }
 
 // The row of the real name after its `N`, if there is one.
 fn name_pieces_in<'r, 'a>(rows: &'r [Vec<&'a [u8]>]) -> &'r [&'a [u8]]
     ensures { fields_in result.now ≡ receipt.named_in (rows_in rows.now) }
 {
-    let row_number = real_name_place(has_list_in(rows), withdrawn_in(rows));
+    let row_number = real_name_row(has_list_in(rows), withdrawn_in(rows));
     if is(cell(rows, row_number, 0), b"N") {
         return fields_from(rows, row_number, 1);
     }
@@ -149,7 +149,7 @@ pub(crate) fn read_contents<'r, 'a>(rows: &'r [Vec<&'a [u8]>]) -> ReceiptContent
     let has_list = has_list_in(rows);
     let withdrawn = withdrawn_in(rows);
     let name_pieces = name_pieces_in(rows);
-    let lists_end = lists_end_place(has_list, withdrawn, name_pieces);
+    let lists_end = lists_end_row(has_list, withdrawn, name_pieces);
     ReceiptContents {
         kind: kind_in(rows),
         name: cell(rows, 0, 3),
@@ -172,7 +172,7 @@ impl<'r, 'a> ReceiptContents<'r, 'a> {
     pub(crate) fn lists_end(&self) -> usize
         ensures { result ≡ receipt.end_of (content self.now) }
     {
-        lists_end_place(self.has_list, self.withdrawn, self.name_pieces)
+        lists_end_row(self.has_list, self.withdrawn, self.name_pieces)
     }
 
     /// The answer to a resident's choice, from 0: a word and three numbers.

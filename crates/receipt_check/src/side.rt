@@ -18,50 +18,50 @@ pub(crate) struct ComparedReceipt<'r, 'a> {
     /// The names on the member's list.
     pub(crate) list: Texts,
     /// For a programme, the last place on its list that one of its residents has.
-    pub(crate) last_member_place: Option<usize>,
+    pub(crate) last_member_position: Option<usize>,
 }
 
 // The later of two places on a list; if only one is given, this one.
-fn later(place: Option<usize>, other_place: Option<usize>) -> Option<usize>
-    ensures { result ≡ pair.later place other_place }
+fn later(position: Option<usize>, other_position: Option<usize>) -> Option<usize>
+    ensures { result ≡ pair.later position other_position }
 {
-    match (place, other_place) {
-        (None, other_place) => other_place,
-        (Some(place), None) => Some(place),
-        (Some(place), Some(other_place)) => Some(if place < other_place {
-            other_place
+    match (position, other_position) {
+        (None, other_position) => other_position,
+        (Some(position), None) => Some(position),
+        (Some(position), Some(other_position)) => Some(if position < other_position {
+            other_position
         } else {
-            place
+            position
         }),
     }
 }
 
 // The place of a name on the member's list.
-fn place_of(contents: &ReceiptContents, list: &Texts, name: &[u8]) -> Option<usize>
+fn position_of(contents: &ReceiptContents, list: &Texts, name: &[u8]) -> Option<usize>
     requires { list.now ≡ fields_in contents.now.list.now }
     ensures place { result ≡ number_in (fields_in contents.now.list.now) name.now }
-    ensures within { IfSome result (λ place. place < 2 ^ 63) }
+    ensures within { IfSome result (λ position. position < 2 ^ 63) }
 {
     match list.find(name) {
-        Some(place) if place < contents.list.len() => Some(place),
+        Some(position) if position < contents.list.len() => Some(position),
         _ => None,
     }
 }
 
 // The last place on the list that has one of the names in the rows after the result's first row.
-fn last_place(contents: &ReceiptContents, list: &Texts) -> Option<usize>
+fn last_position(contents: &ReceiptContents, list: &Texts) -> Option<usize>
     requires { list.now ≡ fields_in contents.now.list.now }
     ensures last { result ≡ pair.last_place (content contents.now) }
-    ensures within { IfSome result (λ place. place < 2 ^ 63) }
+    ensures within { IfSome result (λ position. position < 2 ^ 63) }
 {
-    let mut last_member_place = None;
+    let mut last_member_position = None;
     for k in 0..contents.detail_rows.len() {
-        last_member_place = later(
-            last_member_place,
-            place_of(contents, list, cell(contents.detail_rows, k, 1)),
+        last_member_position = later(
+            last_member_position,
+            position_of(contents, list, cell(contents.detail_rows, k, 1)),
         );
     }
-    last_member_place
+    last_member_position
 }
 
 /// The receipt with this content and these names on its list.
@@ -73,22 +73,22 @@ pub(crate) fn compared_receipt<'r, 'a>(
     ensures shown { receipt_of result ≡ content contents.entry }
     ensures side { IsSide result }
 {
-    let last_member_place = last_place(&contents, &list);
+    let last_member_position = last_position(&contents, &list);
     ComparedReceipt {
         contents,
         list,
-        last_member_place,
+        last_member_position,
     }
 }
 
 impl<'r, 'a> ComparedReceipt<'r, 'a> {
     /// The place of this name on the member's list.
-    pub(crate) fn place(&self, name: &[u8]) -> Option<usize>
+    pub(crate) fn position(&self, name: &[u8]) -> Option<usize>
         requires { IsSide self.now }
         ensures place { result ≡ number_in (receipt_of self.now).list name.now }
-        ensures within { IfSome result (λ place. place < 2 ^ 63) }
+        ensures within { IfSome result (λ position. position < 2 ^ 63) }
     {
-        place_of(&self.contents, &self.list, name)
+        position_of(&self.contents, &self.list, name)
     }
 
     /// Whether the programme has the resident with this name.

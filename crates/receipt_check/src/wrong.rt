@@ -162,12 +162,12 @@ impl From<AllocError> for CompareFault {
 }
 
 /// What is wrong, as a fault of the row at this place, which is counted from 0.
-pub(crate) fn row_fault(place: usize, defect: Wrong) -> Fault
-    requires { place < 2 ^ 63 }
-    ensures { result ≡ shape.at place defect }
+pub(crate) fn row_fault(row_index: usize, defect: Wrong) -> Fault
+    requires { row_index < 2 ^ 63 }
+    ensures { result ≡ shape.at row_index defect }
 {
     Fault {
-        row: place + 1,
+        row: row_index + 1,
         wrong: defect,
     }
 }

@@ -21,22 +21,22 @@ grows_six a b c d e f g u v w x y z h k l m n o = grows_three a b c g u v _ h k 
 
 -- the row of a grown tree's root is the row of the root over the tree's texts
 pub root_row_same : (secret : List ℕ) (grown : TextTree) → IsGrown secret grown
-    → root_row grown.section (length grown.texts.items) (seal_hash (length grown.texts.items) (root grown.tree)) ≡ root_row_of secret grown.section (texts_in grown)
+    → root_row grown.section (length grown.leaf_texts.items) (seal_hash (length grown.leaf_texts.items) (root grown.tree)) ≡ root_row_of secret grown.section (texts_in grown)
 root_row_same secret grown h =
-    let many : length (texts_in grown) ≡ length grown.texts.items = length-map grown.texts.items (λ (text : Vec ℕ). text.items) in
-    ap (λ (top : List ℕ). root_row grown.section (length grown.texts.items) (seal_hash (length grown.texts.items) top)) (ap root h)
+    let many : length (texts_in grown) ≡ length grown.leaf_texts.items = length-map grown.leaf_texts.items (λ (text : Vec ℕ). text.items) in
+    ap (λ (top : List ℕ). root_row grown.section (length grown.leaf_texts.items) (seal_hash (length grown.leaf_texts.items) top)) (ap root h)
     ∙ ap (λ n. root_row grown.section n (seal_hash n (root (hashes_of secret grown.section (texts_in grown))))) (sym many)
 
 -- a grown tree has one leaf for each text
-pub leaves_counted : (secret : List ℕ) (grown : TextTree) → IsGrown secret grown → length grown.tree ≡ length grown.texts.items
+pub leaves_counted : (secret : List ℕ) (grown : TextTree) → IsGrown secret grown → length grown.tree ≡ length grown.leaf_texts.items
 leaves_counted secret grown h =
-    ap (λ (t : List (List ℕ)). length t) h ∙ length-hashes_of secret grown.section (texts_in grown) ∙ length-map grown.texts.items (λ (text : Vec ℕ). text.items)
+    ap (λ (t : List (List ℕ)). length t) h ∙ length-hashes_of secret grown.section (texts_in grown) ∙ length-map grown.leaf_texts.items (λ (text : Vec ℕ). text.items)
 
 -- the part of a receipt about one tree is the row of its root, the row of the opening and the
 -- leaf's text, one after another
 pub part_made : (secret : List ℕ) (grown : TextTree) (i : ℕ) (salt text : List ℕ) (path : List (List ℕ)) (a b c d : Vec ℕ) → IsGrown secret grown
     → salt ≡ salt_of secret grown.section i → path ≡ path_of i grown.tree → text ≡ get_or (texts_in grown) i []
-    → Grows a b (root_row grown.section (length grown.texts.items) (seal_hash (length grown.texts.items) (root grown.tree))) → Grows b c (opening_row grown.section i salt path) → Grows c d text
+    → Grows a b (root_row grown.section (length grown.leaf_texts.items) (seal_hash (length grown.leaf_texts.items) (root grown.tree))) → Grows b c (opening_row grown.section i salt path) → Grows c d text
     → Grows a d (part_text secret grown.section (texts_in grown) i)
 unfolding part_text
 part_made secret grown i salt text path a b c d h s p t first second third =

@@ -14,7 +14,7 @@ texts_of texts = map (λ (text : Vec ℕ). text.items) texts
 
 -- the texts of a tree's leaves
 abbrev pub texts_in : TextTree → List (List ℕ)
-texts_in grown = texts_of grown.texts.items
+texts_in grown = texts_of grown.leaf_texts.items
 
 -- the tree is over the leaves of its texts
 abbrev pub IsGrown : List ℕ → TextTree → Type 0
@@ -24,7 +24,7 @@ IsGrown secret grown = grown.tree ≡ hashes_of secret grown.section (texts_in g
 pub record IsGrownAs (secret : List ℕ) (section : Section) (count : ℕ) (grown : TextTree) : Type 0 where
   pub is_grown : IsGrown secret grown
   pub section_is : grown.section ≡ section
-  pub count_is : length grown.texts.items ≡ count
+  pub count_is : length grown.leaf_texts.items ≡ count
 
 -- the trees of a docket, which have one leaf for each member
 pub record AreTrees (secret : List ℕ) (count : ℕ) (trees : Trees) : Type 0 where

@@ -63,13 +63,13 @@ fn refuse_file<T: Eprint>(alloc: Global, unread: &Unread, console: &T) -> ExitCo
 fn compare_two<W: Write, T: Eprint, H: RandomSource + Files + AllocGlobal>(
     rt: &H,
     alloc: Global,
-    lists: &Published,
-    outcome: &Published,
+    published_lists: &Published,
+    published_result: &Published,
     paths: &ReceiptPaths,
     writer: &mut W,
     console: &T,
 ) -> ExitCode
-    ensures { EndsServed (AnswersPair lists.now outcome.now
+    ensures { EndsServed (AnswersPair published_lists.now published_result.now
         (W.contents writer.old) (W.contents writer.new)) compare_status_of
         (W.contents writer.old) (W.contents writer.new) (exit_status_in result) }
 {
@@ -82,8 +82,16 @@ fn compare_two<W: Write, T: Eprint, H: RandomSource + Files + AllocGlobal>(
         Err(unread) => return refuse_unread(console, &unread),
     };
     let (resident, programme) = (resident.as_slice(), programme.as_slice());
-    let answer = serve_pair(rt, alloc, lists, outcome, resident, programme, writer);
-    if let Err(fault) = &answer {
+    let compare_result = serve_pair(
+        rt,
+        alloc,
+        published_lists,
+        published_result,
+        resident,
+        programme,
+        writer,
+    );
+    if let Err(fault) = &compare_result {
         let path = match fault {
             CompareFault::Wrong(0, _) => Some(paths.resident),
             CompareFault::Wrong(_, _) => Some(paths.programme),
@@ -91,20 +99,20 @@ fn compare_two<W: Write, T: Eprint, H: RandomSource + Files + AllocGlobal>(
         };
         tell(console, path, fault);
     }
-    ExitCode::from(compare_status(&answer))
+    ExitCode::from(compare_status(&compare_result))
 }
 
 // Reads the receipts of a directory, and compares them.
 fn compare_all<W: Write, T: Eprint, H: RandomSource + Files + AllocGlobal>(
     rt: &H,
     alloc: Global,
-    lists: &Published,
-    outcome: &Published,
+    published_lists: &Published,
+    published_result: &Published,
     directory: &str,
     writer: &mut W,
     console: &T,
 ) -> ExitCode
-    ensures { EndsServed (AnswersFolder lists.now outcome.now
+    ensures { EndsServed (AnswersFolder published_lists.now published_result.now
         (W.contents writer.old) (W.contents writer.new)) compare_status_of
         (W.contents writer.old) (W.contents writer.new) (exit_status_in result) }
 {
@@ -116,14 +124,21 @@ fn compare_all<W: Write, T: Eprint, H: RandomSource + Files + AllocGlobal>(
         Ok(files) => files,
         Err(unread) => return refuse_file(alloc, &unread, console),
     };
-    let answer = serve_pairs(rt, alloc, lists, outcome, files.as_slice(), writer);
-    if let Err(fault) = &answer {
+    let compare_result = serve_pairs(
+        rt,
+        alloc,
+        published_lists,
+        published_result,
+        files.as_slice(),
+        writer,
+    );
+    if let Err(fault) = &compare_result {
         match path_at_fault(alloc, paths.as_slice(), fault) {
             Some(path) => tell(console, Some(path.as_str()), fault),
             None => tell(console, None, fault),
         }
     }
-    ExitCode::from(compare_status(&answer))
+    ExitCode::from(compare_status(&compare_result))
 }
 
 /// Compares two receipts under the roots in these rows, and returns the exit status.

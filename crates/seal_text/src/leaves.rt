@@ -42,15 +42,15 @@ pub(crate) fn leaf_hashes(
     alloc: Global,
     secret: &[u8; 32],
     section: Section,
-    texts: &[Vec<u8>],
+    leaf_texts: &[Vec<u8>],
 ) -> Result<Vec<[u8; 32]>, AllocError>
     ensures { IfOk result (λ hashes.
-        hashes.items ≡ hashes_of secret.now section (map (λ (v : Vec ℕ). v.items) texts.now)) }
+        hashes.items ≡ hashes_of secret.now section (map (λ (v : Vec ℕ). v.items) leaf_texts.now)) }
 {
     let mut hashes = Vec::new(alloc);
-    for i in 0..texts.len() {
+    for i in 0..leaf_texts.len() {
         let salt = salt(secret, section.tag(), i as u64);
-        hashes.push(leaf_hash(&salt, texts[i].as_slice()))?;
+        hashes.push(leaf_hash(&salt, leaf_texts[i].as_slice()))?;
     }
     Ok(hashes)
 }

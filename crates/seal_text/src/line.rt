@@ -184,7 +184,7 @@ fn matches_of<'a, S: AsStr>(
 }
 
 // The files that a command line names, if it names the secret's file.
-fn files_of<'a>(matches: &ArgMatches<'a>) -> Option<Sources<'a>>
+fn sources_of<'a>(matches: &ArgMatches<'a>) -> Option<Sources<'a>>
     ensures files { IfSome result (GivesFiles (rows_of (found_of matches.now))) }
     ensures none { result ≡ None
         → first_of (codes "secret") (rows_of (found_of matches.now)) ≡ None }
@@ -215,14 +215,14 @@ fn roots_of<'a>(matches: &ArgMatches<'a>) -> Option<Roots<'a>>
 }
 
 // The order to seal, with the files that a command line names, if it names the secret's file.
-fn seal_named<'a>(wanted: Wanted, matches: &ArgMatches<'a>) -> Option<Order<'a>>
+fn seal_named<'a>(text_kind: Wanted, matches: &ArgMatches<'a>) -> Option<Order<'a>>
     ensures named { IfSome result (IsOrdered (Some
-        (sealing_word wanted, rows_of (found_of matches.now)))) }
+        (sealing_word text_kind, rows_of (found_of matches.now)))) }
     ensures none { result ≡ None
         → first_of (codes "secret") (rows_of (found_of matches.now)) ≡ None }
 {
-    match files_of(matches) {
-        Some(files) => Some(Order::Seal(wanted, files)),
+    match sources_of(matches) {
+        Some(sources) => Some(Order::Seal(text_kind, sources)),
         None => None,
     }
 }

@@ -25,12 +25,12 @@ use std::random::RandomSource;
 use std::rt::Files;
 
 // The path of the file at fault, if a named file is at fault.
-fn file_of<'a>(files: &Sources<'a>, fault: &SealFault) -> Option<&'a str> {
+fn file_of<'a>(sources: &Sources<'a>, fault: &SealFault) -> Option<&'a str> {
     match fault {
-        SealFault::Secret(_) => Some(files.secret),
-        SealFault::Unstable => files.sheet,
+        SealFault::Secret(_) => Some(sources.secret),
+        SealFault::Unstable => sources.sheet,
         SealFault::Key(_) => None,
-        SealFault::Files(fault) => match (fault.file(), files.sheet) {
+        SealFault::Files(fault) => match (fault.file(), sources.sheet) {
             (Some(Part::Docket), _) => Some("standard input"),
             (Some(_), Some(sheet)) => Some(sheet),
             (Some(_), None) => Some("standard input"),
@@ -40,8 +40,8 @@ fn file_of<'a>(files: &Sources<'a>, fault: &SealFault) -> Option<&'a str> {
 }
 
 // Writes why nothing was sealed. No exit status depends on whether this text could be written.
-fn tell<T: Eprint>(console: &T, files: &Sources, fault: &SealFault) {
-    let _ = match file_of(files, fault) {
+fn tell<T: Eprint>(console: &T, sources: &Sources, fault: &SealFault) {
+    let _ = match file_of(sources, fault) {
         Some(file) => eprintln!(console; "residency: {file}: {fault}"),
         None => eprintln!(console; "residency: {fault}"),
     };
@@ -51,8 +51,8 @@ fn tell<T: Eprint>(console: &T, files: &Sources, fault: &SealFault) {
 fn seal_files<R, W, T, H>(
     rt: &H,
     alloc: Global,
-    wanted: Wanted,
-    files: &Sources,
+    text_kind: Wanted,
+    sources: &Sources,
     reader: &mut R,
     writer: &mut W,
     console: &T,
@@ -62,19 +62,19 @@ where
     W: Write,
     T: Eprint,
     H: RandomSource + Files + AllocGlobal,
-    ensures { EndsServed (AnswersSeal wanted files.now (R.remaining reader.old)
+    ensures { EndsServed (AnswersSeal text_kind sources.now (R.remaining reader.old)
         (W.contents writer.old) (W.contents writer.new)) seal_status_of
         (W.contents writer.old) (W.contents writer.new) (exit_status_in result) }
 {
-    let secret = match load_path(rt, files.secret) {
+    let secret = match load_path(rt, sources.secret) {
         Ok(secret) => secret,
         Err(unread) => return refuse_unread(console, &unread),
     };
-    let loaded_sheet = match load_path_if(rt, files.sheet) {
+    let loaded_sheet = match load_path_if(rt, sources.sheet) {
         Ok(loaded_sheet) => loaded_sheet,
         Err(unread) => return refuse_unread(console, &unread),
     };
-    let key = match load_path_if(rt, files.key) {
+    let key = match load_path_if(rt, sources.key) {
         Ok(key) => key,
         Err(unread) => return refuse_unread(console, &unread),
     };
@@ -84,11 +84,11 @@ where
     };
     let (docket, secret) = (docket.as_slice(), secret.as_slice());
     let (sheet, key) = (lent(&loaded_sheet), lent(&key));
-    let answer = serve(rt, alloc, wanted, docket, sheet, key, secret, writer);
-    if let Err(fault) = &answer {
-        tell(console, files, fault);
+    let seal_result = serve(rt, alloc, text_kind, docket, sheet, key, secret, writer);
+    if let Err(fault) = &seal_result {
+        tell(console, sources, fault);
     }
-    ExitCode::from(seal_status(&answer))
+    ExitCode::from(seal_status(&seal_result))
 }
 
 // Writes that the value of an option isn't a root, and returns the exit status.
@@ -134,7 +134,7 @@ fn check_input<R: Read, W: Write, T: Eprint, H: RandomSource>(
         Ok(receipt) => receipt,
         Err(unread) => return refuse_unread(console, &unread),
     };
-    let answer = serve_receipt(
+    let check_result = serve_receipt(
         rt,
         alloc,
         receipt.as_slice(),
@@ -142,10 +142,10 @@ fn check_input<R: Read, W: Write, T: Eprint, H: RandomSource>(
         result_root,
         writer,
     );
-    if let Err(fault) = &answer {
+    if let Err(fault) = &check_result {
         let _ = eprintln!(console; "residency: {fault}");
     }
-    ExitCode::from(receipt_status(&answer))
+    ExitCode::from(receipt_status(&check_result))
 }
 
 // Reads a receipt, and checks it against the roots that these digits write.
@@ -200,13 +200,13 @@ where
     ensures { EndsSeal words (R.remaining reader.old)
         (W.contents writer.old) (W.contents writer.new) (exit_status_in result) }
 {
-    let texts = match texts_of(words) {
-        Ok(texts) => texts,
+    let word_texts = match texts_of(words) {
+        Ok(word_texts) => word_texts,
         Err(fault) => return refuse(console, &fault),
     };
-    match read_line(alloc, texts.as_slice()) {
-        Ok(Order::Seal(wanted, files)) => {
-            seal_files(rt, alloc, wanted, &files, reader, writer, console)
+    match read_line(alloc, word_texts.as_slice()) {
+        Ok(Order::Seal(text_kind, sources)) => {
+            seal_files(rt, alloc, text_kind, &sources, reader, writer, console)
         }
         Ok(Order::Check(roots)) => check_roots(rt, alloc, &roots, reader, writer, console),
         Ok(Order::Pair(rows, paths)) => compare_pair(rt, alloc, &rows, &paths, writer, console),

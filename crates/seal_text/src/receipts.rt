@@ -26,18 +26,19 @@ impl Trees {
     fn put_outcome(
         &self,
         alloc: Global,
-        text: &mut Vec<u8>,
+        rows_text: &mut Vec<u8>,
         secret: &[u8; 32],
         leaf_index: usize,
     ) -> Result<(), AllocError>
         requires outcome { IfSome self.now.outcome
-            (IsGrownAs secret.now Outcome (length self.now.lists.texts.items)) }
-        requires index { leaf_index < length self.now.lists.texts.items }
+            (IsGrownAs secret.now Outcome (length self.now.lists.leaf_texts.items)) }
+        requires index { leaf_index < length self.now.lists.leaf_texts.items }
         ensures { OnOk result
-            (Grows text.old text.new (result_text_if secret.now (results_in self.now) leaf_index)) }
+            (Grows rows_text.old rows_text.new (result_text_if secret.now (results_in self.now)
+            leaf_index)) }
     {
         match &self.outcome {
-            Some(outcome) => outcome.put_part(alloc, text, secret, leaf_index),
+            Some(outcome) => outcome.put_part(alloc, rows_text, secret, leaf_index),
             None => Ok(()),
         }
     }
@@ -46,41 +47,41 @@ impl Trees {
     fn put_receipt(
         &self,
         alloc: Global,
-        text: &mut Vec<u8>,
+        rows_text: &mut Vec<u8>,
         secret: &[u8; 32],
         side_letter: &[u8],
         name: &[u8],
         leaf_index: usize,
     ) -> Result<(), AllocError>
-        requires trees { AreTrees secret.now (length self.now.lists.texts.items) self.now }
-        requires index { leaf_index < length self.now.lists.texts.items }
-        ensures { OnOk result (Grows text.old text.new
+        requires trees { AreTrees secret.now (length self.now.lists.leaf_texts.items) self.now }
+        requires index { leaf_index < length self.now.lists.leaf_texts.items }
+        ensures { OnOk result (Grows rows_text.old rows_text.new
             (receipt_text secret.now side_letter.now name.now
             (lists_in self.now) (results_in self.now) leaf_index)) }
     {
-        put_row(alloc, text, &[b"member", side_letter, name])?;
-        put_row(alloc, text, &[b"receipt", b"2", side_letter, name])?;
-        self.lists.put_part(alloc, text, secret, leaf_index)?;
-        self.put_outcome(alloc, text, secret, leaf_index)
+        put_row(alloc, rows_text, &[b"member", side_letter, name])?;
+        put_row(alloc, rows_text, &[b"receipt", b"2", side_letter, name])?;
+        self.lists.put_part(alloc, rows_text, secret, leaf_index)?;
+        self.put_outcome(alloc, rows_text, secret, leaf_index)
     }
 
     // Adds the receipts of the programmes.
     fn put_programmes(
         &self,
         alloc: Global,
-        text: &mut Vec<u8>,
+        rows_text: &mut Vec<u8>,
         secret: &[u8; 32],
         docket: &Docket,
     ) -> Result<(), AllocError>
-        requires trees { AreTrees secret.now (length self.now.lists.texts.items) self.now }
-        requires count { length self.now.lists.texts.items ≡ member_count docket.now }
-        ensures { OnOk result (Grows text.old text.new (flat_map
+        requires trees { AreTrees secret.now (length self.now.lists.leaf_texts.items) self.now }
+        requires count { length self.now.lists.leaf_texts.items ≡ member_count docket.now }
+        ensures { OnOk result (Grows rows_text.old rows_text.new (flat_map
             (programme_receipt secret.now docket.now (lists_in self.now) (results_in self.now))
             (range_with_len 0 (length docket.now.instance.quotas)))) }
     {
         for p in 0..docket.instance().programmes() {
             let name = docket.programme_name(ProgrammeNo(p)).as_bytes();
-            self.put_receipt(alloc, text, secret, b"P", name, p as usize)?;
+            self.put_receipt(alloc, rows_text, secret, b"P", name, p as usize)?;
         }
         Ok(())
     }
@@ -89,13 +90,13 @@ impl Trees {
     fn put_residents(
         &self,
         alloc: Global,
-        text: &mut Vec<u8>,
+        rows_text: &mut Vec<u8>,
         secret: &[u8; 32],
         docket: &Docket,
     ) -> Result<(), AllocError>
-        requires trees { AreTrees secret.now (length self.now.lists.texts.items) self.now }
-        requires count { length self.now.lists.texts.items ≡ member_count docket.now }
-        ensures { OnOk result (Grows text.old text.new (flat_map
+        requires trees { AreTrees secret.now (length self.now.lists.leaf_texts.items) self.now }
+        requires count { length self.now.lists.leaf_texts.items ≡ member_count docket.now }
+        ensures { OnOk result (Grows rows_text.old rows_text.new (flat_map
             (resident_receipt secret.now docket.now (lists_in self.now) (results_in self.now))
             (range_with_len 0 (length docket.now.instance.resident_lists)))) }
     {
@@ -104,7 +105,7 @@ impl Trees {
             let name = docket.resident_name(ResidentNo(r)).as_bytes();
             self.put_receipt(
                 alloc,
-                text,
+                rows_text,
                 secret,
                 b"R",
                 name,
@@ -118,28 +119,28 @@ impl Trees {
     pub(crate) fn put_receipts(
         &self,
         alloc: Global,
-        text: &mut Vec<u8>,
+        rows_text: &mut Vec<u8>,
         secret: &[u8; 32],
         docket: &Docket,
     ) -> Result<(), AllocError>
-        requires trees { AreTrees secret.now (length self.now.lists.texts.items) self.now }
-        requires count { length self.now.lists.texts.items ≡ member_count docket.now }
-        ensures { OnOk result (Grows text.old text.new
+        requires trees { AreTrees secret.now (length self.now.lists.leaf_texts.items) self.now }
+        requires count { length self.now.lists.leaf_texts.items ≡ member_count docket.now }
+        ensures { OnOk result (Grows rows_text.old rows_text.new
             (receipts_text secret.now docket.now (lists_in self.now) (results_in self.now))) }
     {
-        self.put_programmes(alloc, text, secret, docket)?;
-        self.put_residents(alloc, text, secret, docket)
+        self.put_programmes(alloc, rows_text, secret, docket)?;
+        self.put_residents(alloc, rows_text, secret, docket)
     }
 
     /// Adds the rows of both trees' roots.
-    pub(crate) fn put_roots(&self, alloc: Global, text: &mut Vec<u8>) -> Result<(), AllocError>
-        ensures { (secret : List ℕ) → AreTrees secret (length self.now.lists.texts.items) self.now
-            → OnOk result (Grows text.old text.new
+    pub(crate) fn put_roots(&self, alloc: Global, rows_text: &mut Vec<u8>) -> Result<(), AllocError>
+        ensures { (secret : List ℕ) → AreTrees secret (length self.now.lists.leaf_texts.items)
+            self.now → OnOk result (Grows rows_text.old rows_text.new
             (roots_text secret (lists_in self.now) (results_in self.now))) }
     {
-        self.lists.put_root(alloc, text)?;
+        self.lists.put_root(alloc, rows_text)?;
         match &self.outcome {
-            Some(outcome) => outcome.put_root(alloc, text),
+            Some(outcome) => outcome.put_root(alloc, rows_text),
             None => Ok(()),
         }
     }

@@ -60,27 +60,27 @@ fn tree_if(
 // Adds the roots of a docket's trees, or the receipts, as wanted.
 fn put_wanted(
     alloc: Global,
-    text: &mut Vec<u8>,
-    wanted: Wanted,
+    rows_text: &mut Vec<u8>,
+    text_kind: Wanted,
     secret: &[u8; 32],
     docket: &Docket,
     trees: &Trees,
 ) -> Result<(), AllocError>
-    requires trees { AreTrees secret.now (length trees.now.lists.texts.items) trees.now }
-    requires count { length trees.now.lists.texts.items ≡ member_count docket.now }
-    ensures { OnOk result (Grows text.old text.new (serving.text_of wanted secret.now docket.now
-        (lists_in trees.now) (results_in trees.now))) }
+    requires trees { AreTrees secret.now (length trees.now.lists.leaf_texts.items) trees.now }
+    requires count { length trees.now.lists.leaf_texts.items ≡ member_count docket.now }
+    ensures { OnOk result (Grows rows_text.old rows_text.new (serving.text_of text_kind secret.now
+        docket.now (lists_in trees.now) (results_in trees.now))) }
 {
-    match wanted {
-        Wanted::Roots => trees.put_roots(alloc, text),
-        Wanted::Receipts => trees.put_receipts(alloc, text, secret, docket),
+    match text_kind {
+        Wanted::Roots => trees.put_roots(alloc, rows_text),
+        Wanted::Receipts => trees.put_receipts(alloc, rows_text, secret, docket),
     }
 }
 
 // The roots or the receipts, as wanted, of trees whose leaves have these texts.
 fn text_of(
     alloc: Global,
-    wanted: Wanted,
+    text_kind: Wanted,
     secret: &[u8; 32],
     docket: &Docket,
     lists: Vec<Vec<u8>>,
@@ -88,57 +88,70 @@ fn text_of(
 ) -> Result<Vec<u8>, AllocError>
     requires lists { length lists.items ≡ member_count docket.now }
     requires outcome { IfSome outcome (λ texts. length texts.items ≡ member_count docket.now) }
-    ensures { IfOk result (λ text. text.items ≡ serving.text_of wanted secret.now docket.now
+    ensures { IfOk result (λ text. text.items ≡ serving.text_of text_kind secret.now docket.now
         (texts_of lists.items) (option_map (λ texts. texts_of texts.items) outcome)) }
 {
     let lists = TextTree::new(alloc, secret, Section::Lists, lists)?;
     let outcome = tree_if(alloc, secret, outcome)?;
     let trees = Trees { lists, outcome };
     let mut text = Vec::new(alloc);
-    put_wanted(alloc, &mut text, wanted, secret, docket, &trees)?;
+    put_wanted(alloc, &mut text, text_kind, secret, docket, &trees)?;
     Ok(text)
 }
 
 // The roots or the receipts, as wanted, of a docket and its sheet, with these real names.
 fn text_of_case(
     alloc: Global,
-    wanted: Wanted,
+    text_kind: Wanted,
     secret: &[u8; 32],
     case: &Case,
     given_lists: &ProgrammeLists,
-    names: &RealNames,
+    real_names: &RealNames,
 ) -> Result<Vec<u8>, AllocError>
     requires sheet { HasSheet case.now }
     requires lists { NameMembers case.now.docket given_lists.now case.now.written }
     ensures { IfOk result (λ text. (draft : Draft)
         → AreListsOf draft given_lists.now case.now.written
         → (results : List (List ℕ)) × AreResultTexts case.now results
-        × (text.items ≡ serving.text_of wanted secret.now case.now.docket
-        (texts.lists_texts case.now.docket draft names.now) (Some results))) }
+        × (text.items ≡ serving.text_of text_kind secret.now case.now.docket
+        (texts.lists_texts case.now.docket draft real_names.now) (Some results))) }
 {
-    let lists = lists_texts(alloc, case.docket(), given_lists, case.written(), names)?;
+    let lists = lists_texts(
+        alloc,
+        case.docket(),
+        given_lists,
+        case.written(),
+        real_names,
+    )?;
     let outcome = result_texts(alloc, case)?;
-    text_of(alloc, wanted, secret, case.docket(), lists, Some(outcome))
+    text_of(
+        alloc,
+        text_kind,
+        secret,
+        case.docket(),
+        lists,
+        Some(outcome),
+    )
 }
 
 // The roots or the receipts, as wanted, of a docket without a sheet, with these real names.
 fn text_of_docket(
     alloc: Global,
-    wanted: Wanted,
+    text_kind: Wanted,
     secret: &[u8; 32],
     docket: &Docket,
     written_lists: &WrittenLists,
     given_lists: &ProgrammeLists,
-    names: &RealNames,
+    real_names: &RealNames,
 ) -> Result<Vec<u8>, AllocError>
     requires { NameMembers docket.now given_lists.now written_lists.now }
     ensures { IfOk result (λ text. (draft : Draft)
         → AreListsOf draft given_lists.now written_lists.now
-        → text.items ≡ serving.text_of wanted secret.now docket.now
-        (texts.lists_texts docket.now draft names.now) None) }
+        → text.items ≡ serving.text_of text_kind secret.now docket.now
+        (texts.lists_texts docket.now draft real_names.now) None) }
 {
-    let lists = lists_texts(alloc, docket, given_lists, written_lists, names)?;
-    text_of(alloc, wanted, secret, docket, lists, None)
+    let lists = lists_texts(alloc, docket, given_lists, written_lists, real_names)?;
+    text_of(alloc, text_kind, secret, docket, lists, None)
 }
 
 // The real names in a key, if there is one.
@@ -165,31 +178,31 @@ fn names_of<H: RandomSource>(
 fn early_text<H: RandomSource>(
     rt: &H,
     alloc: Global,
-    wanted: Wanted,
+    text_kind: Wanted,
     docket: &[u8],
     key: Option<&[u8]>,
     secret: &[u8; 32],
 ) -> Result<Vec<u8>, SealFault>
     ensures text { IfOk result (λ text.
-        IsEarlyText wanted docket.now (option_copied key.entry) secret.now text.items) }
-    ensures fault { IfErr result (IsUnmade wanted docket.now None (option_copied key.entry)) }
+        IsEarlyText text_kind docket.now (option_copied key.entry) secret.now text.items) }
+    ensures fault { IfErr result (IsUnmade text_kind docket.now None (option_copied key.entry)) }
 {
     let (read_docket, written_lists, given_lists) = match read_lists(rt, alloc, docket, &[]) {
         Ok(parts) => parts,
         Err(fault) => return Err(SealFault::Files(fault)),
     };
-    let names = match names_of(rt, alloc, &read_docket, key) {
-        Ok(names) => names,
+    let real_names = match names_of(rt, alloc, &read_docket, key) {
+        Ok(real_names) => real_names,
         Err(fault) => return Err(fault),
     };
     match text_of_docket(
         alloc,
-        wanted,
+        text_kind,
         secret,
         &read_docket,
         &written_lists,
         &given_lists,
-        &names,
+        &real_names,
     ) {
         Ok(text) => Ok(text),
         Err(_) => Err(SealFault::Files(FilesFault::Memory)),
@@ -198,10 +211,10 @@ fn early_text<H: RandomSource>(
 
 // Whether the wanted text may be written for this case: roots always, and receipts only if the sheet is
 // stable.
-fn is_allowed(alloc: Global, wanted: Wanted, case: &Case) -> Result<bool, AllocError>
-    ensures { IfOk result (IsTold wanted case.now) }
+fn is_allowed(alloc: Global, text_kind: Wanted, case: &Case) -> Result<bool, AllocError>
+    ensures { IfOk result (IsTold text_kind case.now) }
 {
-    if wanted == Wanted::Roots {
+    if text_kind == Wanted::Roots {
         return Ok(true);
     }
     match audit(alloc, case.docket().instance(), case.sheet()) {
@@ -215,7 +228,7 @@ fn is_allowed(alloc: Global, wanted: Wanted, case: &Case) -> Result<bool, AllocE
 fn allowed_text<H: RandomSource>(
     rt: &H,
     alloc: Global,
-    wanted: Wanted,
+    text_kind: Wanted,
     case: &Case,
     given_lists: &ProgrammeLists,
     key: Option<&[u8]>,
@@ -225,19 +238,19 @@ fn allowed_text<H: RandomSource>(
     requires lists { NameMembers case.now.docket given_lists.now case.now.written }
     ensures text { IfOk result (λ text. (draft : Draft)
         → AreListsOf draft given_lists.now case.now.written
-        → IsTextOf wanted case.now draft (option_copied key.entry) secret.now text.items) }
-    ensures fault { IfErr result (IsUntold wanted case.now (option_copied key.entry)) }
+        → IsTextOf text_kind case.now draft (option_copied key.entry) secret.now text.items) }
+    ensures fault { IfErr result (IsUntold text_kind case.now (option_copied key.entry)) }
 {
-    let names = match names_of(rt, alloc, case.docket(), key) {
-        Ok(names) => names,
+    let real_names = match names_of(rt, alloc, case.docket(), key) {
+        Ok(real_names) => real_names,
         Err(fault) => return Err(fault),
     };
-    match is_allowed(alloc, wanted, case) {
+    match is_allowed(alloc, text_kind, case) {
         Ok(true) => {}
         Ok(false) => return Err(SealFault::Unstable),
         Err(_) => return Err(SealFault::Files(FilesFault::Memory)),
     }
-    match text_of_case(alloc, wanted, secret, case, given_lists, &names) {
+    match text_of_case(alloc, text_kind, secret, case, given_lists, &real_names) {
         Ok(text) => Ok(text),
         Err(_) => Err(SealFault::Files(FilesFault::Memory)),
     }
@@ -247,16 +260,16 @@ fn allowed_text<H: RandomSource>(
 fn full_text<H: RandomSource>(
     rt: &H,
     alloc: Global,
-    wanted: Wanted,
+    text_kind: Wanted,
     docket: &[u8],
     sheet: &[u8],
     key: Option<&[u8]>,
     secret: &[u8; 32],
 ) -> Result<Vec<u8>, SealFault>
     ensures text { IfOk result (λ text.
-        IsFullText wanted docket.now sheet.now (option_copied key.entry) secret.now text.items) }
+        IsFullText text_kind docket.now sheet.now (option_copied key.entry) secret.now text.items) }
     ensures fault { IfErr result
-        (IsUnmade wanted docket.now (Some sheet.now) (option_copied key.entry)) }
+        (IsUnmade text_kind docket.now (Some sheet.now) (option_copied key.entry)) }
 {
     let (case, given_lists) = match read_case(rt, alloc, docket, sheet) {
         Ok(case_and_lists) => case_and_lists,
@@ -264,27 +277,27 @@ fn full_text<H: RandomSource>(
     };
     // For the proof alone: the docket is whole.
     let _instance = case.docket().instance();
-    allowed_text(rt, alloc, wanted, &case, &given_lists, key, secret)
+    allowed_text(rt, alloc, text_kind, &case, &given_lists, key, secret)
 }
 
 // The roots or the receipts, as wanted, from the bytes of a docket and, if there is one, of its sheet.
 fn text_from<H: RandomSource>(
     rt: &H,
     alloc: Global,
-    wanted: Wanted,
+    text_kind: Wanted,
     docket: &[u8],
     sheet: Option<&[u8]>,
     key: Option<&[u8]>,
     secret: &[u8; 32],
 ) -> Result<Vec<u8>, SealFault>
-    ensures text { IfOk result (λ text. IsTextFrom wanted docket.now (option_copied sheet.entry)
+    ensures text { IfOk result (λ text. IsTextFrom text_kind docket.now (option_copied sheet.entry)
         (option_copied key.entry) secret.now text.items) }
     ensures fault { IfErr result
-        (IsUnmade wanted docket.now (option_copied sheet.entry) (option_copied key.entry)) }
+        (IsUnmade text_kind docket.now (option_copied sheet.entry) (option_copied key.entry)) }
 {
     match sheet {
-        Some(sheet) => full_text(rt, alloc, wanted, docket, sheet, key, secret),
-        None => early_text(rt, alloc, wanted, docket, key, secret),
+        Some(sheet) => full_text(rt, alloc, text_kind, docket, sheet, key, secret),
+        None => early_text(rt, alloc, text_kind, docket, key, secret),
     }
 }
 
@@ -292,7 +305,7 @@ fn text_from<H: RandomSource>(
 pub(crate) fn serve<W: Write, H: RandomSource>(
     rt: &H,
     alloc: Global,
-    wanted: Wanted,
+    text_kind: Wanted,
     docket: &[u8],
     sheet: Option<&[u8]>,
     key: Option<&[u8]>,
@@ -300,11 +313,11 @@ pub(crate) fn serve<W: Write, H: RandomSource>(
     writer: &mut W,
 ) -> Result<(), SealFault>
     ensures text { OnOk result ((text : List ℕ)
-        × IsServed wanted docket.now (option_copied sheet.entry)
+        × IsServed text_kind docket.now (option_copied sheet.entry)
         (option_copied key.entry) secret.now text
         × Appends (W.contents writer.old) (W.contents writer.new) text) }
     ensures fault { IfErr result
-        (IsSealFault wanted docket.now (option_copied sheet.entry)
+        (IsSealFault text_kind docket.now (option_copied sheet.entry)
         (option_copied key.entry) secret.now) }
     ensures before { IfErr result (λ fault. fault ≢ SealFault.Files FilesFault.Write
         → writer.new ≡ writer.old) }
@@ -313,7 +326,7 @@ pub(crate) fn serve<W: Write, H: RandomSource>(
         Ok(secret) => secret,
         Err(fault) => return Err(SealFault::Secret(fault)),
     };
-    let text = match text_from(rt, alloc, wanted, docket, sheet, key, &secret) {
+    let text = match text_from(rt, alloc, text_kind, docket, sheet, key, &secret) {
         Ok(text) => text,
         Err(fault) => return Err(fault),
     };

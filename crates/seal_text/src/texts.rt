@@ -64,19 +64,19 @@ fn push_residents(
 fn push_choices(
     row: &mut ByteRecord,
     docket: &Docket,
-    lists: &WrittenLists,
+    written_lists: &WrittenLists,
     resident: ResidentNo,
 ) -> Result<(), AllocError>
     requires whole { partial_of row.old ≡ [] }
     requires list { list_all (λ p. nat_lt p (length docket.now.programmes))
-        (list_at lists.now.resident_lists resident) ≡ true }
+        (list_at written_lists.now.resident_lists resident) ≡ true }
     ensures { OnOk result (Extends row.old row.new
-        (map (programme_name docket.now) (list_at lists.now.resident_lists resident))) }
+        (map (programme_name docket.now) (list_at written_lists.now.resident_lists resident))) }
 {
     // For the proof alone: the docket is whole.
     let _instance = docket.instance();
-    for k in 0..lists.listed_by_resident(resident) {
-        let Some(programme) = lists.choice(resident, k) else {
+    for k in 0..written_lists.listed_by_resident(resident) {
+        let Some(programme) = written_lists.choice(resident, k) else {
             unreachable!("the list is so long");
         };
         push_field(row, docket.programme_name(programme).as_bytes())?;
@@ -98,10 +98,10 @@ fn push_fields(row: &mut ByteRecord, fields: &ByteRecord) -> Result<(), AllocErr
 // Adds the `N` row with a member's real name, if the name is known.
 fn put_real_name(
     alloc: Global,
-    text: &mut Vec<u8>,
+    leaf_text: &mut Vec<u8>,
     real_name: Option<&ByteRecord>,
 ) -> Result<(), AllocError>
-    ensures { OnOk result (Grows text.old text.new
+    ensures { OnOk result (Grows leaf_text.old leaf_text.new
         (line_if (name_record
         (option_map (λ real_name. fields_of real_name.now) real_name.entry)))) }
 {
@@ -110,7 +110,7 @@ fn put_real_name(
             let mut row = ByteRecord::new(alloc);
             push_field(&mut row, b"N")?;
             push_fields(&mut row, real_name)?;
-            put_line(text, &row)
+            put_line(leaf_text, &row)
         }
         None => Ok(()),
     }
@@ -119,7 +119,7 @@ fn put_real_name(
 // Adds a programme's `P` record, if it has a list.
 fn put_ranking(
     alloc: Global,
-    text: &mut Vec<u8>,
+    leaf_text: &mut Vec<u8>,
     docket: &Docket,
     name: &[u8],
     list: Option<&[ResidentNo]>,
@@ -127,14 +127,14 @@ fn put_ranking(
     requires { IfSome (option_copied list) (λ list.
         list_all (λ r. nat_lt r (length docket.now.residents)) list ≡ true) }
     ensures { OnOk result
-        (Grows text.old text.new (line_if (option_map (list_record (codes "P") name.now)
+        (Grows leaf_text.old leaf_text.new (line_if (option_map (list_record (codes "P") name.now)
         (option_map (map (resident_name docket.now)) (option_copied list.entry))))) }
 {
     match list {
         Some(list) => {
             let mut row = record_of(alloc, b"P", name)?;
             push_residents(&mut row, docket, list)?;
-            put_line(text, &row)
+            put_line(leaf_text, &row)
         }
         None => Ok(()),
     }
@@ -143,28 +143,33 @@ fn put_ranking(
 // Adds the `W` row, if the member is withdrawn.
 fn put_withdrawal_if(
     alloc: Global,
-    text: &mut Vec<u8>,
+    leaf_text: &mut Vec<u8>,
     withdrawn: bool,
     side_letter: &[u8],
     name: &[u8],
 ) -> Result<(), AllocError>
     ensures { OnOk result
-        (Grows text.old text.new (withdrawal_if withdrawn side_letter.now name.now)) }
+        (Grows leaf_text.old leaf_text.new (withdrawal_if withdrawn side_letter.now name.now)) }
 {
     if withdrawn {
-        put_row(alloc, text, &[b"W", side_letter, name])
+        put_row(alloc, leaf_text, &[b"W", side_letter, name])
     } else {
         Ok(())
     }
 }
 
 // Adds a programme's `Q` row.
-fn put_quota(alloc: Global, text: &mut Vec<u8>, name: &[u8], quota: u32) -> Result<(), AllocError>
-    ensures { OnOk result (Grows text.old text.new (quota_row name.now quota)) }
+fn put_quota(
+    alloc: Global,
+    leaf_text: &mut Vec<u8>,
+    name: &[u8],
+    quota: u32,
+) -> Result<(), AllocError>
+    ensures { OnOk result (Grows leaf_text.old leaf_text.new (quota_row name.now quota)) }
 {
     let mut number_buffer = itoa::Buffer::new();
     let quota_digits = number_buffer.format(quota).as_bytes();
-    put_row(alloc, text, &[b"Q", name, quota_digits])
+    put_row(alloc, leaf_text, &[b"Q", name, quota_digits])
 }
 
 // The text of a programme's lists leaf: its `Q` row, its `P` record if it has one, its `W` row if it is withdrawn, and its `N`
@@ -173,14 +178,14 @@ fn programme_lists(
     alloc: Global,
     docket: &Docket,
     given_lists: &ProgrammeLists,
-    names: &RealNames,
+    real_names: &RealNames,
     programme: ProgrammeNo,
 ) -> Result<Vec<u8>, AllocError>
     requires given { (p : ℕ) (list : List ℕ) → slice_index_or given_lists.now p None ≡ Some list
         → list_all (λ r. nat_lt r (length docket.now.residents)) list ≡ true }
     requires programme { IsProgramme docket.now.instance programme }
     ensures { IfOk result (λ text. (draft : Draft) → given_lists.now ≡ draft.programme_lists
-        → text.items ≡ spec.programme_lists docket.now draft names.now programme) }
+        → text.items ≡ spec.programme_lists docket.now draft real_names.now programme) }
 {
     let name = docket.programme_name(programme).as_bytes();
     let quota = docket.instance().quota(programme);
@@ -195,7 +200,7 @@ fn programme_lists(
         given_lists.list_of(programme),
     )?;
     put_withdrawal_if(alloc, &mut text, withdrawn, b"P", name)?;
-    put_real_name(alloc, &mut text, names.programme(programme))?;
+    put_real_name(alloc, &mut text, real_names.programme(programme))?;
     Ok(text)
 }
 
@@ -203,45 +208,45 @@ fn programme_lists(
 fn resident_lists(
     alloc: Global,
     docket: &Docket,
-    lists: &WrittenLists,
-    names: &RealNames,
+    written_lists: &WrittenLists,
+    real_names: &RealNames,
     resident: ResidentNo,
 ) -> Result<Vec<u8>, AllocError>
     requires list { list_all (λ p. nat_lt p (length docket.now.programmes))
-        (list_at lists.now.resident_lists resident) ≡ true }
+        (list_at written_lists.now.resident_lists resident) ≡ true }
     requires resident { IsResident docket.now.instance resident }
-    ensures { IfOk result (λ text. (draft : Draft) → lists.now ≡ written_of draft
-        → text.items ≡ spec.resident_lists docket.now draft names.now resident) }
+    ensures { IfOk result (λ text. (draft : Draft) → written_lists.now ≡ written_of draft
+        → text.items ≡ spec.resident_lists docket.now draft real_names.now resident) }
 {
     let name = docket.resident_name(resident).as_bytes();
     let withdrawn = docket.instance().resident_withdrawn(resident);
     let mut text = Vec::new(alloc);
     let mut row = record_of(alloc, b"R", name)?;
-    push_choices(&mut row, docket, lists, resident)?;
+    push_choices(&mut row, docket, written_lists, resident)?;
     put_line(&mut text, &row)?;
     put_withdrawal_if(alloc, &mut text, withdrawn, b"R", name)?;
-    put_real_name(alloc, &mut text, names.resident(resident))?;
+    put_real_name(alloc, &mut text, real_names.resident(resident))?;
     Ok(text)
 }
 
 // Adds the texts of the programmes' lists leaves.
 fn push_programme_lists(
     alloc: Global,
-    texts: &mut Vec<Vec<u8>>,
+    leaf_texts: &mut Vec<Vec<u8>>,
     docket: &Docket,
     given_lists: &ProgrammeLists,
-    names: &RealNames,
+    real_names: &RealNames,
 ) -> Result<(), AllocError>
     requires given { (p : ℕ) (list : List ℕ) → slice_index_or given_lists.now p None ≡ Some list
         → list_all (λ r. nat_lt r (length docket.now.residents)) list ≡ true }
     ensures { OnOk result ((draft : Draft)
-        → given_lists.now ≡ draft.programme_lists → texts_of texts.new.items
-        ≡ texts_of texts.old.items ++ map (spec.programme_lists docket.now draft names.now)
-        (range_with_len 0 (length docket.now.instance.quotas))) }
+        → given_lists.now ≡ draft.programme_lists → texts_of leaf_texts.new.items
+        ≡ texts_of leaf_texts.old.items ++ map (spec.programme_lists docket.now draft
+        real_names.now) (range_with_len 0 (length docket.now.instance.quotas))) }
 {
     for p in 0..docket.instance().programmes() {
-        let text = programme_lists(alloc, docket, given_lists, names, ProgrammeNo(p))?;
-        texts.push(text)?;
+        let text = programme_lists(alloc, docket, given_lists, real_names, ProgrammeNo(p))?;
+        leaf_texts.push(text)?;
     }
     Ok(())
 }
@@ -249,22 +254,22 @@ fn push_programme_lists(
 // Adds the texts of the residents' lists leaves.
 fn push_resident_lists(
     alloc: Global,
-    texts: &mut Vec<Vec<u8>>,
+    leaf_texts: &mut Vec<Vec<u8>>,
     docket: &Docket,
-    lists: &WrittenLists,
-    names: &RealNames,
+    written_lists: &WrittenLists,
+    real_names: &RealNames,
 ) -> Result<(), AllocError>
     requires lists { (r : ℕ) → r < length docket.now.residents
         → list_all (λ p. nat_lt p (length docket.now.programmes))
-        (list_at lists.now.resident_lists r) ≡ true }
+        (list_at written_lists.now.resident_lists r) ≡ true }
     ensures { OnOk result ((draft : Draft)
-        → lists.now ≡ written_of draft → texts_of texts.new.items
-        ≡ texts_of texts.old.items ++ map (spec.resident_lists docket.now draft names.now)
+        → written_lists.now ≡ written_of draft → texts_of leaf_texts.new.items
+        ≡ texts_of leaf_texts.old.items ++ map (spec.resident_lists docket.now draft real_names.now)
         (range_with_len 0 (length docket.now.instance.resident_lists))) }
 {
     for r in 0..docket.instance().residents() {
-        let text = resident_lists(alloc, docket, lists, names, ResidentNo(r))?;
-        texts.push(text)?;
+        let text = resident_lists(alloc, docket, written_lists, real_names, ResidentNo(r))?;
+        leaf_texts.push(text)?;
     }
     Ok(())
 }
@@ -274,30 +279,31 @@ pub(crate) fn lists_texts(
     alloc: Global,
     docket: &Docket,
     given_lists: &ProgrammeLists,
-    lists: &WrittenLists,
-    names: &RealNames,
+    written_lists: &WrittenLists,
+    real_names: &RealNames,
 ) -> Result<Vec<Vec<u8>>, AllocError>
-    requires { NameMembers docket.now given_lists.now lists.now }
-    ensures { IfOk result (λ texts. (draft : Draft) → AreListsOf draft given_lists.now lists.now
-        → texts_of texts.items ≡ spec.lists_texts docket.now draft names.now) }
+    requires { NameMembers docket.now given_lists.now written_lists.now }
+    ensures { IfOk result (λ leaf_texts. (draft : Draft) → AreListsOf draft given_lists.now
+        written_lists.now
+        → texts_of leaf_texts.items ≡ spec.lists_texts docket.now draft real_names.now) }
 {
-    let mut texts = Vec::new(alloc);
-    push_programme_lists(alloc, &mut texts, docket, given_lists, names)?;
-    push_resident_lists(alloc, &mut texts, docket, lists, names)?;
-    Ok(texts)
+    let mut leaf_texts = Vec::new(alloc);
+    push_programme_lists(alloc, &mut leaf_texts, docket, given_lists, real_names)?;
+    push_resident_lists(alloc, &mut leaf_texts, docket, written_lists, real_names)?;
+    Ok(leaf_texts)
 }
 
 // Adds a programme's `F` row.
 fn put_filled(
     alloc: Global,
-    text: &mut Vec<u8>,
+    leaf_text: &mut Vec<u8>,
     docket: &Docket,
     programme: ProgrammeNo,
     filled: u32,
 ) -> Result<(), AllocError>
     requires { IsProgramme docket.now.instance programme }
     ensures { OnOk result
-        (Grows text.old text.new (programme_row docket.now (codes "F") programme filled)) }
+        (Grows leaf_text.old leaf_text.new (programme_row docket.now (codes "F") programme filled)) }
 {
     let name = docket.programme_name(programme).as_bytes();
     let (mut filled_buffer, mut quota_buffer) = (itoa::Buffer::new(), itoa::Buffer::new());
@@ -305,31 +311,31 @@ fn put_filled(
     let quota_digits = quota_buffer
         .format(docket.instance().quota(programme))
         .as_bytes();
-    put_row(alloc, text, &[b"F", name, filled_digits, quota_digits])
+    put_row(alloc, leaf_text, &[b"F", name, filled_digits, quota_digits])
 }
 
 // The `F` row of each programme, as a text of its own.
 fn filled_rows(alloc: Global, case: &Case) -> Result<Vec<Vec<u8>>, AllocError>
     requires { HasSheet case.now }
-    ensures { IfOk result (λ texts. texts_of texts.items
+    ensures { IfOk result (λ leaf_texts. texts_of leaf_texts.items
         ≡ map (filled_row case.now.docket case.now.sheet)
         (range_with_len 0 (length case.now.docket.instance.quotas))) }
 {
     let docket = case.docket();
-    let mut texts = Vec::new(alloc);
+    let mut leaf_texts = Vec::new(alloc);
     for p in 0..docket.instance().programmes() {
         let programme = ProgrammeNo(p);
         let mut text = Vec::new(alloc);
         put_filled(alloc, &mut text, docket, programme, case.filled(programme))?;
-        texts.push(text)?;
+        leaf_texts.push(text)?;
     }
-    Ok(texts)
+    Ok(leaf_texts)
 }
 
 // Adds a resident's `M` row to the text of the resident's programme.
 fn put_member(
     alloc: Global,
-    text: &mut Vec<u8>,
+    leaf_text: &mut Vec<u8>,
     docket: &Docket,
     resident: ResidentNo,
     programme: ProgrammeNo,
@@ -337,12 +343,12 @@ fn put_member(
     requires resident { IsResident docket.now.instance resident }
     requires programme { IsProgramme docket.now.instance programme }
     ensures { OnOk result
-        (Grows text.old text.new (mark_row docket.now resident (Some programme))) }
+        (Grows leaf_text.old leaf_text.new (mark_row docket.now resident (Some programme))) }
 {
     let name = docket.resident_name(resident).as_bytes();
     put_row(
         alloc,
-        text,
+        leaf_text,
         &[b"M", name, docket.programme_name(programme).as_bytes()],
     )
 }
@@ -351,12 +357,12 @@ fn put_member(
 // the docket's order. One walk over the residents adds each `M` row to the text of its programme.
 fn programme_results(alloc: Global, case: &Case) -> Result<Vec<Vec<u8>>, AllocError>
     requires { HasSheet case.now }
-    ensures { IfOk result (λ texts. texts_of texts.items
+    ensures { IfOk result (λ leaf_texts. texts_of leaf_texts.items
         ≡ map (spec.programme_result case.now.docket case.now.sheet)
         (range_with_len 0 (length case.now.docket.instance.quotas))) }
 {
     let docket = case.docket();
-    let mut texts = filled_rows(alloc, case)?;
+    let mut leaf_texts = filled_rows(alloc, case)?;
     for r in 0..docket.instance().residents() {
         let resident = ResidentNo(r);
         let Some(programme) = case.place_of(resident) else {
@@ -364,13 +370,13 @@ fn programme_results(alloc: Global, case: &Case) -> Result<Vec<Vec<u8>>, AllocEr
         };
         put_member(
             alloc,
-            &mut texts[programme.0 as usize],
+            &mut leaf_texts[programme.0 as usize],
             docket,
             resident,
             programme,
         )?;
     }
-    Ok(texts)
+    Ok(leaf_texts)
 }
 
 // Adds a resident's `M` or `U` row.
@@ -442,16 +448,16 @@ fn resident_result(alloc: Global, case: &Case, resident: ResidentNo) -> Result<V
 // Adds the texts of the residents' result leaves.
 fn push_resident_results(
     alloc: Global,
-    texts: &mut Vec<Vec<u8>>,
+    leaf_texts: &mut Vec<Vec<u8>>,
     case: &Case,
 ) -> Result<(), AllocError>
     requires { HasSheet case.now }
     ensures { OnOk result (PushesResults case.now (length case.now.docket.instance.resident_lists)
-        (texts_of texts.old.items) (texts_of texts.new.items)) }
+        (texts_of leaf_texts.old.items) (texts_of leaf_texts.new.items)) }
 {
     for r in 0..case.docket().instance().residents() {
         let text = resident_result(alloc, case, ResidentNo(r))?;
-        texts.push(text)?;
+        leaf_texts.push(text)?;
     }
     Ok(())
 }
@@ -459,9 +465,9 @@ fn push_resident_results(
 /// The texts of all result leaves: the programmes' and then the residents', in the docket's order.
 pub(crate) fn result_texts(alloc: Global, case: &Case) -> Result<Vec<Vec<u8>>, AllocError>
     requires { HasSheet case.now }
-    ensures { IfOk result (λ texts. AreResultTexts case.now (texts_of texts.items)) }
+    ensures { IfOk result (λ leaf_texts. AreResultTexts case.now (texts_of leaf_texts.items)) }
 {
-    let mut texts = programme_results(alloc, case)?;
-    push_resident_results(alloc, &mut texts, case)?;
-    Ok(texts)
+    let mut leaf_texts = programme_results(alloc, case)?;
+    push_resident_results(alloc, &mut leaf_texts, case)?;
+    Ok(leaf_texts)
 }

@@ -5,4 +5,4 @@ use Rattle.audit_files.specs.Rows.{withdrawn_rows}
 use Rattle.audit_files.proofs.facts.put_programmes.Given as goal
 
 abbrev pub invariant-loop-p : goal.invariant-loop-p
-invariant-loop-p l = Grows l.fn.text l.text (withdrawn_rows (codes "P") (programme_name l.docket) l.docket.instance.programmes_withdrawn l.p)
+invariant-loop-p l = Grows l.fn.facts_text l.facts_text (withdrawn_rows (codes "P") (programme_name l.docket) l.docket.instance.programmes_withdrawn l.p)

@@ -7,8 +7,8 @@ use Rattle.audit_text.proofs.answer.push_fault.Goals as goal
 
 pub returns-in-NotClosed : goal.returns-in-NotClosed
 returns-in-NotClosed g c =
-    let place : decimal (event_count c.args.docket.now.journal + 1) ≡ c.as_bytes-place_digits-in-NotClosed.result.now =
-    sym (c.as_bytes-place_digits-in-NotClosed.ensures.value ∙ (c.format-in-NotClosed.ensures.text ∙ ap (λ n. decimal (n + 1)) c.event_count.ensures.count)) in
+    let place : decimal (event_count c.args.docket.now.journal + 1) ≡ c.as_bytes-event_digits-in-NotClosed.result.now =
+    sym (c.as_bytes-event_digits-in-NotClosed.ensures.value ∙ (c.format-in-NotClosed.ensures.text ∙ ap (λ n. decimal (n + 1)) c.event_count.ensures.count)) in
     on_ok_weaker c.push_word-in-NotClosed.result (λ h. rw (c.in-NotClosed.is, place) h) c.push_word-in-NotClosed.ensures
 
 pub returns-in-SheetDiffers : goal.returns-in-SheetDiffers

@@ -7,5 +7,5 @@ use Rattle.receipt_check.proofs.pair_words.put_filled.Goals as goal
 pub returns : goal.returns
 returns c =
     on_ok_weaker c.put_pieces-2.result (λ h. rw (length-map c.args.programme.now.contents.detail_rows.now (λ row. fields_in row.items))
-    (grows_three c.args.text.now c.put_pieces.new.text c.put_number.new.text c.put_pieces-2.new.text _ _ _
+    (grows_three c.args.sentence.now c.put_pieces.new.sentence c.put_number.new.text c.put_pieces-2.new.sentence _ _ _
     c.in_ok-put_pieces.ensures c.in_ok-put_number.ensures h)) c.put_pieces-2.ensures

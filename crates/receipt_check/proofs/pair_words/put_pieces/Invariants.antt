@@ -5,4 +5,4 @@ use Rattle.receipt_check.specs.Pair.{joined}
 use Rattle.receipt_check.proofs.pair_words.put_pieces.Given as goal
 
 abbrev pub invariant-loop-k : goal.invariant-loop-k
-invariant-loop-k l = Grows l.fn.text l.text (joined (take l.k (fields_in l.pieces)))
+invariant-loop-k l = Grows l.fn.sentence l.sentence (joined (take l.k (fields_in l.pieces)))

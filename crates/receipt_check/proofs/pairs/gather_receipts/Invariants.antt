@@ -7,5 +7,5 @@ use Rattle.receipt_check.proofs.pairs.gather_receipts.Given as goal
 
 abbrev pub invariant-loop-k : goal.invariant-loop-k
 invariant-loop-k l =
-    (first_in (λ k. in_file k (file_fault l.lists l.outcome (bytes_in l.files) k)) l.k ≡ None)
-    × (receipts_of l.receipts ≡ take l.k (contents_of (bytes_in l.files))) × IsHeld l.receipts
+    (first_in (λ k. in_file k (file_fault l.published_lists l.published_result (bytes_in l.receipt_files) k)) l.k ≡ None)
+    × (receipts_of l.receipts ≡ take l.k (contents_of (bytes_in l.receipt_files))) × IsHeld l.receipts

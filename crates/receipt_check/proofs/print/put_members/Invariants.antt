@@ -6,4 +6,4 @@ use Rattle.receipt_check.specs.Shown.{rows_in}
 use Rattle.receipt_check.proofs.print.put_members.Given as goal
 
 abbrev pub invariant-loop-k : goal.invariant-loop-k
-invariant-loop-k l = Grows l.fn.text l.text (flat_map (λ row. line (member_row l.contents.name.now (text_at row 1))) (take l.k (rows_in l.contents.detail_rows.now)))
+invariant-loop-k l = Grows l.fn.rows_text l.rows_text (flat_map (λ row. line (member_row l.contents.name.now (text_at row 1))) (take l.k (rows_in l.contents.detail_rows.now)))

@@ -7,11 +7,11 @@ use Rattle.receipt_check.proofs.Steps.{grows_none, grows_next, lines_map}
 use Rattle.receipt_check.proofs.print.put_reasons.Goals as goal
 
 pub loop-k-init : goal.loop-k-init
-loop-k-init c = grows_none c.args.text.now
+loop-k-init c = grows_none c.args.rows_text.now
 
 pub loop-k-preserved : goal.loop-k-preserved
 loop-k-preserved c =
-    grows_next (λ k. line (reason_row (content c.args.contents.now) k)) c.args.text.now c.loop-k.text c.put_reason.new.text c.loop-k.k c.loop-k.invariant c.in_ok-put_reason.ensures
+    grows_next (λ k. line (reason_row (content c.args.contents.now) k)) c.args.rows_text.now c.loop-k.rows_text c.put_reason.new.rows_text c.loop-k.k c.loop-k.invariant c.in_ok-put_reason.ensures
 
 pub returns : goal.returns
 returns c =

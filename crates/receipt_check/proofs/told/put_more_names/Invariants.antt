@@ -5,4 +5,4 @@ use Rattle.receipt_check.specs.Told.{more_names}
 use Rattle.receipt_check.proofs.told.put_more_names.Given as goal
 
 abbrev pub invariant-loop-k : goal.invariant-loop-k
-invariant-loop-k l = Grows l.fn.text l.text (more_names (take l.k (fields_in l.names)))
+invariant-loop-k l = Grows l.fn.sentences l.sentences (more_names (take l.k (fields_in l.names)))

@@ -5,11 +5,11 @@ use Rattle.receipt_check.proofs.Steps.{grows_none, grows_next}
 use Rattle.receipt_check.proofs.told.put_reasons.Goals as goal
 
 pub loop-k-init : goal.loop-k-init
-loop-k-init c = grows_none c.args.text.now
+loop-k-init c = grows_none c.args.sentences.now
 
 pub loop-k-preserved : goal.loop-k-preserved
 loop-k-preserved c =
-    grows_next (reason_text (content c.args.contents.now)) c.args.text.now c.loop-k.text c.put_reason.new.text c.loop-k.k c.loop-k.invariant c.in_ok-put_reason.ensures
+    grows_next (reason_text (content c.args.contents.now)) c.args.sentences.now c.loop-k.sentences c.put_reason.new.sentences c.loop-k.k c.loop-k.invariant c.in_ok-put_reason.ensures
 
 pub returns : goal.returns
 returns c =

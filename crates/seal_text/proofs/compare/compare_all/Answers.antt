@@ -6,10 +6,10 @@ use Rattle.seal_text.proofs.compare.compare_all.Goals as goal
 
 pub returns : goal.returns
 returns g c = inr (record {
-  answer = c.serve_pairs-answer.result;
+  answer = c.serve_pairs-compare_result.result;
   appends = record {
     files = bytes_in c.as_slice-2.result.now;
-    answers = compared g.W.Write.contents _ _ c.serve_pairs-answer.result _ _ _ _ _ c.serve_pairs-answer.ensures.good c.serve_pairs-answer.ensures.told c.serve_pairs-answer.ensures.stable c.serve_pairs-answer.ensures.fault c.serve_pairs-answer.ensures.unwritten;
+    answers = compared g.W.Write.contents _ _ c.serve_pairs-compare_result.result _ _ _ _ _ c.serve_pairs-compare_result.ensures.good c.serve_pairs-compare_result.ensures.told c.serve_pairs-compare_result.ensures.stable c.serve_pairs-compare_result.ensures.fault c.serve_pairs-compare_result.ensures.unwritten;
   };
   tells = search rules;
 })

@@ -5,11 +5,11 @@ use Rattle.seal_text.proofs.compare.compare_two.Goals as goal
 
 pub returns : goal.returns
 returns g c = inr (record {
-  answer = c.serve_pair-answer.result;
+  answer = c.serve_pair-compare_result.result;
   appends = record {
     resident = c.as_slice-resident.result.now;
     programme = c.as_slice-programme.result.now;
-    answers = compared g.W.Write.contents _ _ c.serve_pair-answer.result _ _ _ _ _ c.serve_pair-answer.ensures.good c.serve_pair-answer.ensures.told c.serve_pair-answer.ensures.agree c.serve_pair-answer.ensures.fault c.serve_pair-answer.ensures.unwritten;
+    answers = compared g.W.Write.contents _ _ c.serve_pair-compare_result.result _ _ _ _ _ c.serve_pair-compare_result.ensures.good c.serve_pair-compare_result.ensures.told c.serve_pair-compare_result.ensures.agree c.serve_pair-compare_result.ensures.fault c.serve_pair-compare_result.ensures.unwritten;
   };
   tells = search rules;
 })

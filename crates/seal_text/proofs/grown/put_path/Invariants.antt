@@ -5,4 +5,4 @@ use Rattle.seal_text.specs.Sealed.{digest_field}
 use Rattle.seal_text.proofs.grown.put_path.Given as goal
 
 abbrev pub invariant-loop-k : goal.invariant-loop-k
-invariant-loop-k l = Grows l.fn.text l.text (flat_map digest_field (take l.k l.path))
+invariant-loop-k l = Grows l.fn.rows_text l.rows_text (flat_map digest_field (take l.k l.path))

@@ -10,11 +10,11 @@ both A B (Err e) a b = a
 
 pub returns : goal.returns
 returns g c = inr (record {
-  answer = c.serve_receipt-answer.result;
+  answer = c.serve_receipt-check_result.result;
   appends = record {
     bytes = c.as_slice.result.now;
     bytes_are = search rules;
-    answers = answered g.W.Write.contents _ _ c.serve_receipt-answer.result _ _ _ (both _ _ c.serve_receipt-answer.result c.serve_receipt-answer.ensures.good c.serve_receipt-answer.ensures.told) c.serve_receipt-answer.ensures.fault c.serve_receipt-answer.ensures.unwritten;
+    answers = answered g.W.Write.contents _ _ c.serve_receipt-check_result.result _ _ _ (both _ _ c.serve_receipt-check_result.result c.serve_receipt-check_result.ensures.good c.serve_receipt-check_result.ensures.told) c.serve_receipt-check_result.ensures.fault c.serve_receipt-check_result.ensures.unwritten;
   };
   tells = search rules;
 })

@@ -18,4 +18,4 @@ returns-clause-text g c = IfOk-weaker c.allowed_text.result _ _ (λ text made. r
 }) c.allowed_text.ensures.text
 
 pub returns-clause-fault : goal.returns-clause-fault
-returns-clause-fault g c = IfErr-weaker c.allowed_text.result _ _ (λ fault h. case_unmade c.args.wanted c.args.docket.now c.args.sheet.now _ _ fault c.in-Ok.ensures.case h) c.allowed_text.ensures.fault
+returns-clause-fault g c = IfErr-weaker c.allowed_text.result _ _ (λ fault h. case_unmade c.args.text_kind c.args.docket.now c.args.sheet.now _ _ fault c.in-Ok.ensures.case h) c.allowed_text.ensures.fault

@@ -10,7 +10,7 @@ put_wanted-requires-clause-trees c =
     let count = ap (λ (t : List (Vec ℕ)). length t) c.in_ok-lists.ensures.texts ∙ c.requires.lists in
     record {
       lists = record { is_grown = c.in_ok-lists.ensures.grown; section_is = c.in_ok-lists.ensures.section; count_is = refl };
-      outcome = c.in_ok-outcome.ensures.grown (length lists.texts.items) (counted_too c.args.outcome (member_count c.args.docket.now) (length lists.texts.items) count c.requires.outcome);
+      outcome = c.in_ok-outcome.ensures.grown (length lists.leaf_texts.items) (counted_too c.args.outcome (member_count c.args.docket.now) (length lists.leaf_texts.items) count c.requires.outcome);
     }
 
 pub put_wanted-requires-clause-count : goal.put_wanted-requires-clause-count
@@ -18,5 +18,5 @@ put_wanted-requires-clause-count c = ap (λ (t : List (Vec ℕ)). length t) c.in
 
 pub returns : goal.returns
 returns c =
-    wanted_made c.args.wanted c.args.secret.now c.args.docket.now _ _ _ _ c.new-text.result.items c.put_wanted.new.text.items c.new-text.ensures.items c.in_ok-put_wanted.ensures
+    wanted_made c.args.text_kind c.args.secret.now c.args.docket.now _ _ _ _ c.new-text.result.items c.put_wanted.new.rows_text.items c.new-text.ensures.items c.in_ok-put_wanted.ensures
     (ap texts_of c.in_ok-lists.ensures.texts) c.in_ok-outcome.ensures.texts

@@ -8,4 +8,4 @@ use Rattle.seal_text.proofs.texts.filled_rows.Goals as goal
 pub loop-p-preserved : goal.loop-p-preserved
 loop-p-preserved c =
     pushed_next (filled_row c.args.case.now.docket c.args.case.now.sheet) [] _ _ c.loop-p.p c.loop-p.invariant
-    (rw (c.in_ok-push.ensures.items, map_push (λ (v : Vec ℕ). v.items) c.loop-p.texts.items c.put_filled.new.text, c.in_ok-put_filled.ensures, c.new-text.ensures.items, c.docket-docket.ensures, c.filled.ensures) refl)
+    (rw (c.in_ok-push.ensures.items, map_push (λ (v : Vec ℕ). v.items) c.loop-p.leaf_texts.items c.put_filled.new.leaf_text, c.in_ok-put_filled.ensures, c.new-text.ensures.items, c.docket-docket.ensures, c.filled.ensures) refl)

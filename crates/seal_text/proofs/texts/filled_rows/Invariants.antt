@@ -5,4 +5,4 @@ use Rattle.seal_text.specs.Grown.{texts_of}
 use Rattle.seal_text.proofs.texts.filled_rows.Given as goal
 
 abbrev pub invariant-loop-p : goal.invariant-loop-p
-invariant-loop-p l = texts_of l.texts.items ≡ map (filled_row l.case.docket l.case.sheet) (range_with_len 0 l.p)
+invariant-loop-p l = texts_of l.leaf_texts.items ≡ map (filled_row l.case.docket l.case.sheet) (range_with_len 0 l.p)

@@ -10,19 +10,19 @@ use Rattle.seal_text.proofs.TextFacts.{AreSoFar, are_all, none_yet, with_member,
 use Rattle.seal_text.proofs.texts.programme_results.Goals as goal
 
 pub loop-r-init : goal.loop-r-init
-loop-r-init c = none_yet c.args.case.now.docket c.args.case.now.sheet (texts_of c.in_ok-texts.texts.items) c.in_ok-texts.ensures
+loop-r-init c = none_yet c.args.case.now.docket c.args.case.now.sheet (texts_of c.in_ok-leaf_texts.leaf_texts.items) c.in_ok-leaf_texts.ensures
 
 pub loop-r-preserved-in_default : goal.loop-r-preserved-in_default
 loop-r-preserved-in_default c =
-    with_nobody c.args.case.now.docket c.args.case.now.sheet c.loop-r.r (texts_of c.loop-r.texts.items) (sym c.place_of.ensures ∙ c.in_default.is) c.loop-r.invariant
+    with_nobody c.args.case.now.docket c.args.case.now.sheet c.loop-r.r (texts_of c.loop-r.leaf_texts.items) (sym c.place_of.ensures ∙ c.in_default.is) c.loop-r.invariant
 
 pub loop-r-preserved : goal.loop-r-preserved
 loop-r-preserved c =
     let d : Contents = c.args.case.now.docket in
     let r : ℕ = c.loop-r.r in
     let q : ℕ = c.programme.inside.0 in
-    let old : List (Vec ℕ) = c.loop-r.texts.items in
-    let text : Vec ℕ = c.put_member.new.text in
+    let old : List (Vec ℕ) = c.loop-r.leaf_texts.items in
+    let text : Vec ℕ = c.put_member.new.leaf_text in
     let items : Vec ℕ → List ℕ = λ (v : Vec ℕ). v.items in
     let has : programme_of c.args.case.now.sheet r ≡ Some q = sym c.place_of.ensures ∙ c.in-Some.is ∙ ap Some (sym c.programme.view_is) in
     let within : q < length d.instance.quotas = (let member = c.requires.sheet_of.members r q has in let many = c.requires.whole.programmes in omega (arith, member, many)) in
@@ -39,4 +39,4 @@ pub returns : goal.returns
 returns c =
     let many = ap (λ (d : Contents). length d.instance.resident_lists) c.docket-docket.ensures in
     let own = ap (λ (i : Instance). length i.resident_lists) c.instance.ensures.instance in
-    are_all c.args.case.now.docket c.args.case.now.sheet c.loop-r.r (texts_of c.loop-r.texts.items) (omega (arith, many, own)) c.loop-r.invariant
+    are_all c.args.case.now.docket c.args.case.now.sheet c.loop-r.r (texts_of c.loop-r.leaf_texts.items) (omega (arith, many, own)) c.loop-r.invariant

@@ -13,7 +13,7 @@ push_field-requires c = c.loop-k.invariant.whole
 
 pub programme_name-requires : goal.programme_name-requires
 programme_name-requires c =
-    let list = list_at c.args.lists.now.resident_lists c.args.resident in
+    let list = list_at c.args.written_lists.now.resident_lists c.args.resident in
     let within : c.loop-k.k < length list = omega (arith, c.loop-k-test.true, c.listed_by_resident-k-end.ensures) in
     let below = one_below _ list c.loop-k.k c.requires.list within in
     let here = chosen list c.loop-k.k c.in-Some.programme (sym c.choice.ensures ∙ c.in-Some.is) in
@@ -22,7 +22,7 @@ programme_name-requires c =
 pub loop-k-preserved : goal.loop-k-preserved
 loop-k-preserved c =
     let name = programme_name c.args.docket.now in
-    let list = list_at c.args.lists.now.resident_lists c.args.resident in
+    let list = list_at c.args.written_lists.now.resident_lists c.args.resident in
     let within : c.loop-k.k < length list = omega (arith, c.loop-k-test.true, c.listed_by_resident-k-end.ensures) in
     let here = chosen list c.loop-k.k c.in-Some.programme (sym c.choice.ensures ∙ c.in-Some.is) in
     extends_more (map name list) c.loop-k.k _ _ _ _ (omega (arith, within, length-map list name)) c.loop-k.invariant
@@ -31,5 +31,5 @@ loop-k-preserved c =
 pub returns : goal.returns
 returns c =
     let name = programme_name c.args.docket.now in
-    let list = list_at c.args.lists.now.resident_lists c.args.resident in
+    let list = list_at c.args.written_lists.now.resident_lists c.args.resident in
     extends_all (map name list) c.loop-k.k _ _ (omega (arith, c.loop-k-test.false, c.listed_by_resident-k-end.ensures, length-map list name)) c.loop-k.invariant

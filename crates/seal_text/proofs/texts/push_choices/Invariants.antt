@@ -5,4 +5,4 @@ use Rattle.seal_text.specs.Texts.{Extends}
 use Rattle.seal_text.proofs.texts.push_choices.Given as goal
 
 abbrev pub invariant-loop-k : goal.invariant-loop-k
-invariant-loop-k l = Extends l.initial.row l.row (take l.k (map (programme_name l.docket) (list_at l.lists.resident_lists l.resident)))
+invariant-loop-k l = Extends l.initial.row l.row (take l.k (map (programme_name l.docket) (list_at l.written_lists.resident_lists l.resident)))

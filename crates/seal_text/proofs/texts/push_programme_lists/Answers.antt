@@ -7,5 +7,5 @@ use Rattle.seal_text.proofs.texts.push_programme_lists.Goals as goal
 
 pub loop-p-preserved : goal.loop-p-preserved
 loop-p-preserved c = λ draft are.
-    pushed_next (programme_lists c.args.docket.now draft c.args.names.now) _ _ _ c.loop-p.p (c.loop-p.invariant draft are)
-    (rw (c.in_ok-push.ensures.items, map_push (λ (v : Vec ℕ). v.items) c.loop-p.texts.items c.in_ok-text.text, c.in_ok-text.ensures draft are) refl)
+    pushed_next (programme_lists c.args.docket.now draft c.args.real_names.now) _ _ _ c.loop-p.p (c.loop-p.invariant draft are)
+    (rw (c.in_ok-push.ensures.items, map_push (λ (v : Vec ℕ). v.items) c.loop-p.leaf_texts.items c.in_ok-text.text, c.in_ok-text.ensures draft are) refl)

@@ -7,5 +7,5 @@ use Rattle.seal_text.proofs.texts.push_resident_lists.Goals as goal
 
 pub loop-r-preserved : goal.loop-r-preserved
 loop-r-preserved c = λ draft are.
-    pushed_next (resident_lists c.args.docket.now draft c.args.names.now) _ _ _ c.loop-r.r (c.loop-r.invariant draft are)
-    (rw (c.in_ok-push.ensures.items, map_push (λ (v : Vec ℕ). v.items) c.loop-r.texts.items c.in_ok-text.text, c.in_ok-text.ensures draft are) refl)
+    pushed_next (resident_lists c.args.docket.now draft c.args.real_names.now) _ _ _ c.loop-r.r (c.loop-r.invariant draft are)
+    (rw (c.in_ok-push.ensures.items, map_push (λ (v : Vec ℕ). v.items) c.loop-r.leaf_texts.items c.in_ok-text.text, c.in_ok-text.ensures draft are) refl)

@@ -8,4 +8,4 @@ use Rattle.seal_text.proofs.texts.push_resident_lists.Given as goal
 
 abbrev pub invariant-loop-r : goal.invariant-loop-r
 invariant-loop-r l =
-    (draft : Draft) → l.lists ≡ written_of draft → texts_of l.texts.items ≡ texts_of l.fn.texts.items ++ map (resident_lists l.docket draft l.names) (range_with_len 0 l.r)
+    (draft : Draft) → l.written_lists ≡ written_of draft → texts_of l.leaf_texts.items ≡ texts_of l.fn.leaf_texts.items ++ map (resident_lists l.docket draft l.real_names) (range_with_len 0 l.r)

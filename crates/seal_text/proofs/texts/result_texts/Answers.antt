@@ -12,5 +12,5 @@ returns c =
       residents = pushed.texts;
       are = pushed.are;
       texts_are = pushed.pushed ∙ ap (λ (t : List (List ℕ)). t ++ pushed.texts)
-          (c.in_ok-texts.ensures);
+          (c.in_ok-leaf_texts.ensures);
     }

@@ -49,9 +49,9 @@ loop-k-preserved c =
     let kept = filter (differs rs) (take k pairs) in
     elim c.if-is_some.branch [
       | then-is_some+in_ok-push w ↦
-          ap (λ (v : Vec (ℕ × ℕ)). v.items) w.differing-is ∙ w.in_ok-push.ensures.items ∙ ap (λ (xs : Pairs). xs ++ pair ∷ []) c.loop-k.invariant
+          ap (λ (v : Vec (ℕ × ℕ)). v.items) w.differing_pairs-is ∙ w.in_ok-push.ensures.items ∙ ap (λ (xs : Pairs). xs ++ pair ∷ []) c.loop-k.invariant
           ∙ sym (more ∙ ap (λ (b : Bool). kept ++ (if b then pair ∷ [] else [])) (test ∙ w.if-is_some.true))
       | else-is_some w ↦
-          ap (λ (v : Vec (ℕ × ℕ)). v.items) w.differing-is ∙ c.loop-k.invariant ∙ sym (append-nil kept)
+          ap (λ (v : Vec (ℕ × ℕ)). v.items) w.differing_pairs-is ∙ c.loop-k.invariant ∙ sym (append-nil kept)
           ∙ sym (more ∙ ap (λ (b : Bool). kept ++ (if b then pair ∷ [] else [])) (test ∙ w.if-is_some.false))
     ]

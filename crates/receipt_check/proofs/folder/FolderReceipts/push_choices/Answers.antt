@@ -22,12 +22,12 @@ loop-k-preserved c =
     let before = c.loop-k.pairs.items in
     let list = ap (λ (r : Receipt). r.list) (receipt_is h c.args.resident_file c.index.result.now c.requires.within c.index.ensures) in
     let name = c.field.ensures ∙ ap (λ names. text_at names c.loop-k.k) (sym list) in
-    let file : c.file.result ≡ file_named Programme rs (text_at (receipt_at rs c.args.resident_file).list c.loop-k.k) =
-    c.file.ensures ∙ file_is Programme rs h.programmes c.field.result.now c.requires.held.programmes_are ∙ ap (file_named Programme rs) name in
-    elim c.match-file.branch [
-      | in-Some+in_ok-push-in-Some w ↦ pairs_next (choice_pair rs c.args.resident_file) c.args.pairs.now.items before c.match-file.pairs.items c.loop-k.k c.loop-k.invariant
+    let file : c.file_number.result ≡ file_named Programme rs (text_at (receipt_at rs c.args.resident_file).list c.loop-k.k) =
+    c.file_number.ensures ∙ file_is Programme rs h.programmes c.field.result.now c.requires.held.programmes_are ∙ ap (file_named Programme rs) name in
+    elim c.match-file_number.branch [
+      | in-Some+in_ok-push-in-Some w ↦ pairs_next (choice_pair rs c.args.resident_file) c.args.pairs.now.items before c.match-file_number.pairs.items c.loop-k.k c.loop-k.invariant
           (ap (λ (v : Vec (ℕ × ℕ)). v.items) w.pairs-is ∙ w.in_ok-push-in-Some.ensures.items ∙ ap (λ (found : Option ℕ). before ++ with_programme c.args.resident_file found) (sym w.in-Some.is ∙ file))
-      | in-None w ↦ pairs_next (choice_pair rs c.args.resident_file) c.args.pairs.now.items before c.match-file.pairs.items c.loop-k.k c.loop-k.invariant
+      | in-None w ↦ pairs_next (choice_pair rs c.args.resident_file) c.args.pairs.now.items before c.match-file_number.pairs.items c.loop-k.k c.loop-k.invariant
           (ap (λ (v : Vec (ℕ × ℕ)). v.items) w.pairs-is ∙ sym (append-nil before) ∙ ap (λ (found : Option ℕ). before ++ with_programme c.args.resident_file found) (sym w.in-None.is ∙ file))
     ]
 

@@ -25,14 +25,14 @@ loop-k-preserved c =
     let is = receipt_is h p c.index.result.now c.requires.within c.index.ensures in
     let row = c.cell.ensures ∙ sym (member_at (rows_in c.index.result.now.contents.detail_rows.now) c.loop-k.k) in
     let name = row ∙ ap (λ (r : Receipt). text_at (members r) c.loop-k.k) (sym is) in
-    let file : c.file.result ≡ file_named Resident rs (text_at (members (receipt_at rs p)) c.loop-k.k) =
-    c.file.ensures ∙ file_is Resident rs h.residents c.cell.result.now c.requires.held.residents_are ∙ ap (file_named Resident rs) name in
-    elim c.match-file.branch [
-      | in-Some+in_ok-push_unlisted-in-Some w ↦ pairs_next (member_pair rs p) c.args.pairs.now.items before c.match-file.pairs.items c.loop-k.k c.loop-k.invariant
+    let file : c.file_number.result ≡ file_named Resident rs (text_at (members (receipt_at rs p)) c.loop-k.k) =
+    c.file_number.ensures ∙ file_is Resident rs h.residents c.cell.result.now c.requires.held.residents_are ∙ ap (file_named Resident rs) name in
+    elim c.match-file_number.branch [
+      | in-Some+in_ok-push_unlisted-in-Some w ↦ pairs_next (member_pair rs p) c.args.pairs.now.items before c.match-file_number.pairs.items c.loop-k.k c.loop-k.invariant
           (ap (λ (v : Vec (ℕ × ℕ)). v.items) w.pairs-is ∙ w.in_ok-push_unlisted-in-Some.ensures
           ∙ ap (λ (name : List ℕ). before ++ (if is_declared (receipt_at rs w.in-Some.resident_file).list name then [] else (w.in-Some.resident_file, p) ∷ [])) (ap (λ (r : Receipt). r.name) (sym is))
           ∙ ap (λ (found : Option ℕ). before ++ with_resident rs p found) (sym w.in-Some.is ∙ file))
-      | in-None w ↦ pairs_next (member_pair rs p) c.args.pairs.now.items before c.match-file.pairs.items c.loop-k.k c.loop-k.invariant
+      | in-None w ↦ pairs_next (member_pair rs p) c.args.pairs.now.items before c.match-file_number.pairs.items c.loop-k.k c.loop-k.invariant
           (ap (λ (v : Vec (ℕ × ℕ)). v.items) w.pairs-is ∙ sym (append-nil before) ∙ ap (λ (found : Option ℕ). before ++ with_resident rs p found) (sym w.in-None.is ∙ file))
     ]
 

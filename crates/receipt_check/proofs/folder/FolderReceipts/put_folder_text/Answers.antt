@@ -14,6 +14,6 @@ returns-clause-text c =
     let there : length c.as_slice-present_count.result.now ≡ length rs = ap length c.as_slice-present_count.ensures.value ∙ sym (length-map sides receipt_of) in
     let compared : length c.as_slice-3.result.now ≡ length (pairs_of rs) = ap length (c.as_slice-3.ensures.value ∙ c.in_ok-pairs.ensures) in
     let differ : length c.as_slice-4.result.now ≡ length (differing_pairs rs) = ap length (c.as_slice-4.ensures.value ∙ c.in_ok-differing_pairs.ensures) in
-    grows_three c.args.text.now c.put_differing.new.text c.put_counts.new.text c.put_stable.new.text _ _ _
-    (rw differing at c.in_ok-put_differing.ensures) (rw (there, compared, differ) at c.in_ok-put_counts.ensures)
+    grows_three c.args.sentences.now c.put_differing_pairs.new.sentences c.put_counts.new.sentences c.put_stable.new.sentences _ _ _
+    (rw differing at c.in_ok-put_differing_pairs.ensures) (rw (there, compared, differ) at c.in_ok-put_counts.ensures)
     (rw c.is_stable-stable.ensures at c.in_ok-put_stable.ensures)

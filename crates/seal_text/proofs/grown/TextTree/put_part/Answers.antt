@@ -9,7 +9,7 @@ opening-requires c = let below = c.requires.index in omega (arith, below, leaves
 pub returns : goal.returns
 returns c =
     let self = c.args.self.now in
-    on_ok_weaker c.put.result (λ h. part_made c.args.secret.now self c.args.leaf_index c.salt-salt.result _ _ c.args.text.now c.put_root.new.text c.put_opening.new.text c.put.new.text
+    on_ok_weaker c.put.result (λ h. part_made c.args.secret.now self c.args.leaf_index c.salt-salt.result _ _ c.args.rows_text.now c.put_root.new.rows_text c.put_opening.new.rows_text c.put.new.text
     c.requires.grown (rw c.tag.ensures at c.salt-salt.ensures) (c.as_slice.ensures.value ∙ c.in_ok-path.ensures)
-    (c.as_slice-2.ensures.value ∙ text_there self.texts.items c.args.leaf_index c.index-texts-leaf_index.result c.requires.index (rw c.as_slice-texts.ensures.value at c.index-texts-leaf_index.is))
+    (c.as_slice-2.ensures.value ∙ text_there self.leaf_texts.items c.args.leaf_index c.index-leaf_texts-leaf_index.result c.requires.index (rw c.as_slice-leaf_texts.ensures.value at c.index-leaf_texts-leaf_index.is))
     c.in_ok-put_root.ensures c.in_ok-put_opening.ensures h) c.put.ensures

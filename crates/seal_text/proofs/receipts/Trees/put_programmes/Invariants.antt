@@ -5,4 +5,4 @@ use Rattle.seal_text.specs.Sealed.{programme_receipt}
 use Rattle.seal_text.proofs.receipts.Trees.put_programmes.Given as goal
 
 abbrev pub invariant-loop-p : goal.invariant-loop-p
-invariant-loop-p l = Grows l.fn.text l.text (flat_map (programme_receipt l.secret l.docket (lists_in l.self) (results_in l.self)) (range_with_len 0 l.p))
+invariant-loop-p l = Grows l.fn.rows_text l.rows_text (flat_map (programme_receipt l.secret l.docket (lists_in l.self) (results_in l.self)) (range_with_len 0 l.p))

@@ -6,7 +6,7 @@ use Rattle.receipt_check.specs.Receipt.{members}
 use Rattle.receipt_check.specs.Rows.{text_at}
 use Rattle.receipt_check.specs.Shown.{content, fields_in, rows_in}
 use Rattle.receipt_check.proofs.PairFacts.{last_next, later_small, member_at}
-use Rattle.receipt_check.proofs.side.last_place.Goals as goal
+use Rattle.receipt_check.proofs.side.last_position.Goals as goal
 
 pub loop-k-init : goal.loop-k-init
 unfolding last_within
@@ -18,9 +18,9 @@ loop-k-preserved c =
     let names = members (content c.args.contents.now) in
     let k = c.loop-k.k in
     let name = c.cell.ensures ∙ sym (member_at (rows_in c.args.contents.now.detail_rows.now) k) in
-    let place = c.place_of.ensures.place ∙ ap (number_in list) name in (
-      c.later-last_member_place.ensures ∙ ap₂ later c.loop-k.invariant.0 place ∙ sym (last_next list names k),
-      rw c.later-last_member_place.ensures (later_small c.loop-k.last_member_place c.place_of.result c.loop-k.invariant.1 c.place_of.ensures.within),
+    let place = c.position_of.ensures.place ∙ ap (number_in list) name in (
+      c.later-last_member_position.ensures ∙ ap₂ later c.loop-k.invariant.0 place ∙ sym (last_next list names k),
+      rw c.later-last_member_position.ensures (later_small c.loop-k.last_member_position c.position_of.result c.loop-k.invariant.1 c.position_of.ensures.within),
     )
 
 pub returns-clause-last : goal.returns-clause-last

@@ -11,7 +11,7 @@ use Rattle.receipt_check.specs.Receipt.{Receipt}
 use Rattle.receipt_check.specs.Side.{receipt_of}
 use Rattle.receipt_check.proofs.FolderFacts.{ArePlaces, differing_there, receipt_is, side_is}
 use Rattle.receipt_check.proofs.Steps.{grows_at, grows_none, grown_all}
-use Rattle.receipt_check.proofs.folder.FolderReceipts.put_differing.Goals as goal
+use Rattle.receipt_check.proofs.folder.FolderReceipts.put_differing_pairs.Goals as goal
 
 pub index-requires : goal.index-requires
 index-requires c =
@@ -24,7 +24,7 @@ index-requires-in-loop-k c =
     omega (arith, there.second, c.args.self.now.receipts.ok)
 
 pub loop-k-init : goal.loop-k-init
-loop-k-init c = grows_none c.args.text.now
+loop-k-init c = grows_none c.args.sentences.now
 
 pub first_difference-requires-clause-resident : goal.first_difference-requires-clause-resident
 first_difference-requires-clause-resident c =
@@ -56,8 +56,8 @@ loop-k-preserved c =
     let there = differing_there h pairs k c.requires.pairs c.loop-k-test.true in
     let resident : receipt_at rs pair.0 ≡ receipt_of c.index.result.now = receipt_is h pair.0 c.index.result.now there.first c.index.ensures in
     let programme : receipt_at rs pair.1 ≡ receipt_of c.index-in-loop-k.result.now = receipt_is h pair.1 c.index-in-loop-k.result.now there.second c.index-in-loop-k.ensures in
-    let words = c.in_ok-put_pair.ensures ∙ ap₂ (λ (r p : Receipt). c.loop-k.text.items ++ pair_words r p) (sym resident) (sym programme) in
-    grows_at (words_at rs) c.args.text.now c.loop-k.text c.put_pair.new.text pairs k (0, 0) c.loop-k-test.true c.loop-k.invariant words
+    let words = c.in_ok-put_pair.ensures ∙ ap₂ (λ (r p : Receipt). c.loop-k.sentences.items ++ pair_words r p) (sym resident) (sym programme) in
+    grows_at (words_at rs) c.args.sentences.now c.loop-k.sentences c.put_pair.new.sentence pairs k (0, 0) c.loop-k-test.true c.loop-k.invariant words
 
 pub returns : goal.returns
-returns c = grown_all (words_at (receipts_of c.args.self.now)) c.args.text.now c.loop-k.text c.args.pairs.now c.loop-k.k c.loop-k-test.false c.loop-k.invariant
+returns c = grown_all (words_at (receipts_of c.args.self.now)) c.args.sentences.now c.loop-k.sentences c.args.pairs.now c.loop-k.k c.loop-k-test.false c.loop-k.invariant

@@ -1,5 +1,0 @@
-use Rattle.std.proofs.lemmas.Result.{on_ok_weaker}
-use Rattle.receipt_check.proofs.pair_words.put_agreed_at.Goals as goal
-
-pub returns-in-Some : goal.returns-in-Some
-returns-in-Some c = on_ok_weaker c.put_agreed.result (λ h. rw c.in-Some.is (rw c.answer.ensures at h)) c.put_agreed.ensures
