@@ -316,8 +316,8 @@ fn agrees_after(run: &Run, cap: Capacity, earlier_events: &[Event], events: &[Ev
 // Whether the core and the slow definitions agree about all events after each beginning of the list, from the empty
 // list to the whole list.
 fn agrees(run: &mut Run, cap: Capacity, events: &[Event], legal_events: &[Event]) -> bool {
-    for place in 0..=legal_events.len() {
-        let (earlier_events, later_events) = legal_events.split_at(place);
+    for event_index in 0..=legal_events.len() {
+        let (earlier_events, later_events) = legal_events.split_at(event_index);
         if !agrees_after(run, cap, earlier_events, events) {
             return false;
         }

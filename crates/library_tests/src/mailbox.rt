@@ -65,9 +65,9 @@ fn two_places_in_memory(rt: HostRuntime) -> Result<(), Fail> {
 #[test]
 fn capacities(rt: HostRuntime) {
     // a desk can be sent at most twice as many messages as there are acceptable pairs
-    for (capacity, wanted) in [(0, Some(MailFault::NoCapacity)), (1, None), (400_000, None)] {
+    for (capacity, right_fault) in [(0, Some(MailFault::NoCapacity)), (1, None), (400_000, None)] {
         let fault = mailbox::<u32, HostRuntime>(rt.alloc(), rt, capacity).err();
-        assert!(rt; fault == wanted, "{capacity}");
+        assert!(rt; fault == right_fault, "{capacity}");
     }
 }
 

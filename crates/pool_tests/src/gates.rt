@@ -42,13 +42,14 @@ fn receipts_of(journal: &[Event]) -> u64 {
 // Whether each worker entered as many events as the gate counted, and the journal has all of them and no others.
 fn agrees_with_counts(outcome: &Outcome, gate_counts: &[u64]) -> bool {
     let mut entered_sum = 0_u64;
-    for (entered, gate_count) in outcome.entered.iter().zip(gate_counts) {
-        if entered != gate_count {
+    for (entry_count, gate_count) in outcome.entry_counts.iter().zip(gate_counts) {
+        if entry_count != gate_count {
             return false;
         }
         entered_sum = entered_sum.saturating_add(*gate_count);
     }
-    outcome.journal.len() as u64 == entered_sum && outcome.who.len() == outcome.journal.len()
+    outcome.journal.len() as u64 == entered_sum
+        && outcome.event_workers.len() == outcome.journal.len()
 }
 
 // Whether a run ended as it should whose gate stops it from the call of `pass` with this number on.
@@ -188,7 +189,7 @@ fn a_stop_wakes_who_rests(rt: HostRuntime) -> Result<(), Fail> {
 // The index in the journal of the event that a worker entered after it had entered `earlier_entries` events.
 fn journal_index(outcome: &Outcome, worker: usize, earlier_entries: u64) -> Option<usize> {
     let mut entered_count = 0_u64;
-    for (index, by_worker) in outcome.who.iter().enumerate() {
+    for (index, by_worker) in outcome.event_workers.iter().enumerate() {
         if usize::from(*by_worker) == worker {
             if entered_count == earlier_entries {
                 return Some(index);
@@ -202,17 +203,17 @@ fn journal_index(outcome: &Outcome, worker: usize, earlier_entries: u64) -> Opti
 // Whether a receipt that was kept waiting was entered after all events that were entered meanwhile, none of which
 // belongs to its desk.
 fn is_entered_after(outcome: &Outcome, hold: &Hold, workers: usize) -> bool {
-    let Some(held_index) = journal_index(outcome, hold.worker, hold.own) else {
+    let Some(held_index) = journal_index(outcome, hold.worker, hold.own_entries) else {
         return false;
     };
     for (index, event) in outcome.journal.iter().enumerate() {
-        let is_meanwhile = index >= (hold.from as usize).saturating_add(workers)
+        let is_meanwhile = index >= (hold.entries_before as usize).saturating_add(workers)
             && index < held_index;
         if is_meanwhile && (desk_of(event) == Some(hold.desk) || *event == Event::Close) {
             return false;
         }
     }
-    held_index as u64 >= hold.to
+    held_index as u64 >= hold.entries_after
         && outcome.journal.get(held_index).is_some_and(|event| {
             desk_of(event) == Some(hold.desk) && receipts_of(&[*event]) == 1
         })

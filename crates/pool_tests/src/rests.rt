@@ -30,11 +30,11 @@ const ALL_FOR_ONE: Members = (
 // The worker at the resident's desk waits at its first take until all four offers are entered and the other workers
 // sleep. It then answers this offer, and waits at its second take until the answer is heard.
 const AT_THE_SECOND_TAKE: Holds = Holds {
-    begun: 0,
-    offers: 0,
-    first: (FIRST_RESIDENT, 4),
-    other: None,
-    next: (1, Until::Entered(7)),
+    events_to_begin: 0,
+    events_to_take: 0,
+    first_desk_call: (FIRST_RESIDENT, 4),
+    other_desk_call: None,
+    next_takes: (1, Until::Entered(7)),
 };
 
 // A pair, and four programmes that all rank a second resident.
@@ -46,11 +46,11 @@ const PROGRAMMES_WAIT: Members = (
 // The first take of the second resident waits until the three other programmes wait for room in its mailbox. The take
 // of the first resident waits until its pair's offer and all events of the others are entered, at least sixteen.
 const BESIDE_PROGRAMMES: Holds = Holds {
-    begun: 0,
-    offers: 0,
-    first: (Desk::Resident(Y), 2),
-    other: Some((FIRST_RESIDENT, 17)),
-    next: NO_LATER_WAITS,
+    events_to_begin: 0,
+    events_to_take: 0,
+    first_desk_call: (Desk::Resident(Y), 2),
+    other_desk_call: Some((FIRST_RESIDENT, 17)),
+    next_takes: NO_LATER_WAITS,
 };
 
 // A pair, and a programme with a place for each of its four residents.
@@ -62,11 +62,11 @@ const RESIDENTS_WAIT: Members = (
 // The take of the first resident waits until its pair's offer and all sixteen events of the others are entered. Three
 // of the other residents wait for room in their programme's mailbox.
 const BESIDE_RESIDENTS: Holds = Holds {
-    begun: 0,
-    offers: 5,
-    first: (FIRST_RESIDENT, 17),
-    other: None,
-    next: NO_LATER_WAITS,
+    events_to_begin: 0,
+    events_to_take: 5,
+    first_desk_call: (FIRST_RESIDENT, 17),
+    other_desk_call: None,
+    next_takes: NO_LATER_WAITS,
 };
 
 const AT_TAKES: [(Members, Capacity, Holds, &[usize]); 3] = [
@@ -242,11 +242,11 @@ fn each_that_sleeps_is_woken_for_what_one_visit_gave(rt: HostRuntime) {
     for (workers, waiting_workers) in [(2, 1), (3, 2)] {
         for _ in 0..TRIES {
             let holds = Holds {
-                begun: 2,
-                offers: 6,
-                first: (Desk::Programme(A), 21),
-                other: None,
-                next: (waiting_workers, Until::Takes(9)),
+                events_to_begin: 2,
+                events_to_take: 6,
+                first_desk_call: (Desk::Programme(A), 21),
+                other_desk_call: None,
+                next_takes: (waiting_workers, Until::Takes(9)),
             };
             let run_setup = (THREE_LOST, Capacity::Full, workers);
             assert!(rt;
@@ -280,11 +280,11 @@ fn made_crowd(alloc: Global) -> Result<Instance, ModelFault> {
 fn a_visit_that_wakes_many_lists_them_all(rt: HostRuntime) -> Result<(), Fail> {
     let inst = made_crowd(rt.alloc())?;
     let holds = Holds {
-        begun: 0,
-        offers: 70,
-        first: (FIRST_RESIDENT, 277),
-        other: None,
-        next: NO_LATER_WAITS,
+        events_to_begin: 0,
+        events_to_take: 70,
+        first_desk_call: (FIRST_RESIDENT, 277),
+        other_desk_call: None,
+        next_takes: NO_LATER_WAITS,
     };
     let gate = UntilDone::new(rt, holds);
     let outcome = ran_on(rt, rt.alloc(), &inst, Capacity::Full, 2, &gate)?;

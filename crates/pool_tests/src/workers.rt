@@ -12,18 +12,18 @@ use test_support::instances::{Members, TWO_PLACES, has_places};
 
 // Whether each event of a run has a worker, and each worker has as many events as the run reports.
 fn is_counted(outcome: &Outcome, workers: usize) -> bool {
-    for (worker, entered) in outcome.entered.iter().enumerate() {
+    for (worker, entry_count) in outcome.entry_counts.iter().enumerate() {
         let mut worker_events = 0_u64;
-        for by_worker in &outcome.who {
+        for by_worker in &outcome.event_workers {
             if usize::from(*by_worker) == worker {
                 worker_events = worker_events.saturating_add(1);
             }
         }
-        if worker_events != *entered {
+        if worker_events != *entry_count {
             return false;
         }
     }
-    outcome.entered.len() == workers && outcome.who.len() == outcome.journal.len()
+    outcome.entry_counts.len() == workers && outcome.event_workers.len() == outcome.journal.len()
 }
 
 #[test]
@@ -124,11 +124,11 @@ fn one_goes_on_while_all_others_are_held(rt: HostRuntime) {
 #[test]
 fn a_worker_that_sleeps_ends_with_the_run(rt: HostRuntime) {
     let holds = Holds {
-        begun: 0,
-        offers: 0,
-        first: (Desk::Programme(A), 3),
-        other: None,
-        next: (0, Until::Entered(0)),
+        events_to_begin: 0,
+        events_to_take: 0,
+        first_desk_call: (Desk::Programme(A), 3),
+        other_desk_call: None,
+        next_takes: (0, Until::Entered(0)),
     };
     let gate = UntilDone::new(rt, holds);
     let outcome = ran(rt, rt.alloc(), ONE_PAIR, Capacity::Full, 2, &gate);

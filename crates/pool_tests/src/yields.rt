@@ -80,8 +80,8 @@ fn give_lists(
         drawn_number(random_state).max(1),
     );
     let (mut residents, mut programmes) = (Vec::new(alloc), Vec::new(alloc));
-    for place in 0..7_u32 {
-        let other_number = first_number.wrapping_add(place.wrapping_mul(step)) % 7;
+    for factor in 0..7_u32 {
+        let other_number = first_number.wrapping_add(factor.wrapping_mul(step)) % 7;
         if drawn_number(random_state) < 5 {
             residents.push(ResidentNo(other_number))?;
         }
@@ -129,8 +129,8 @@ fn busy_workers_in<R: Threads + Wait + Sync + Send + Copy>(
         return None;
     }
     let mut busy_workers = 0_usize;
-    for entered in &outcome.entered {
-        busy_workers = busy_workers.saturating_add((*entered > 0) as usize);
+    for entry_count in &outcome.entry_counts {
+        busy_workers = busy_workers.saturating_add((*entry_count > 0) as usize);
     }
     Some(busy_workers)
 }
