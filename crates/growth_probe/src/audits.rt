@@ -35,7 +35,7 @@ fn is_blocked(report: &AuditReport) -> bool {
 }
 
 /// Audits a sheet with a blocking pair.
-pub(super) fn audited<W: Write>(alloc: Global, stdout: &mut W) -> Outcome {
+pub(super) fn audit_blocked_sheet<W: Write>(alloc: Global, stdout: &mut W) -> Outcome {
     let Some(docket) = docket_of(alloc, &[BLOCKED_DOCKET]) else {
         return Outcome::Wrong;
     };
@@ -123,7 +123,7 @@ fn replay_of(alloc: Global, docket: &Docket) -> Result<Replayed, ReplayFault> {
 }
 
 /// Replays a journal.
-pub(super) fn replayed<W: Write>(alloc: Global, stdout: &mut W) -> Outcome {
+pub(super) fn replay_small_journal<W: Write>(alloc: Global, stdout: &mut W) -> Outcome {
     let Some(docket) = docket_of(alloc, &[SMALL_DOCKET, SMALL_JOURNAL]) else {
         return Outcome::Wrong;
     };
@@ -179,7 +179,7 @@ fn sheet_differs(check_answer: &Result<Replayed, ReplayFault>) -> bool {
 }
 
 /// Checks a journal against another sheet, and against its own sheet.
-pub(super) fn checked<W: Write>(alloc: Global, stdout: &mut W) -> Outcome {
+pub(super) fn check_two_sheets<W: Write>(alloc: Global, stdout: &mut W) -> Outcome {
     let (Some(other_docket), Some(own_docket)) = (
         docket_of(alloc, &[SMALL_DOCKET, SMALL_JOURNAL, OTHER_SHEET]),
         docket_of(alloc, &[SMALL_DOCKET, SMALL_JOURNAL, SMALL_SHEET]),
@@ -213,7 +213,7 @@ fn counts_of(alloc: Global, journal: &Journal) -> Result<Vec<u64>, AuditFault>
 }
 
 /// Counts the events of two workers.
-pub(super) fn counted<W: Write>(alloc: Global, stdout: &mut W) -> Outcome {
+pub(super) fn count_by_worker<W: Write>(alloc: Global, stdout: &mut W) -> Outcome {
     let Some(docket) = docket_of(alloc, &[SMALL_DOCKET, JOURNAL_BY_WORKER]) else {
         return Outcome::Wrong;
     };

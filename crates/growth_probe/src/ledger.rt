@@ -84,7 +84,7 @@ fn opened_anew(alloc: Global, inst: &Instance, ends: Ends) -> Result<bool, (Ledg
 }
 
 /// Opens a ledger of the small docket, over ends without room.
-pub(super) fn opened<W: Write>(alloc: Global, stdout: &mut W) -> Outcome {
+pub(super) fn open_full_ledger<W: Write>(alloc: Global, stdout: &mut W) -> Outcome {
     let (Some(docket), Ok(offer_ends), Ok(answer_ends)) = (
         docket_of(alloc, &[SMALL_DOCKET]),
         two_full_ends::<OfferNote>(alloc),

@@ -112,7 +112,7 @@ fn wrong_line<W: Write>(alloc: Global, stdout: &mut W) -> Outcome {
 }
 
 // Matches the small docket.
-fn matched<H: Threads + Wait + RandomSource + Sync + Send + Copy, W: Write>(
+fn match_small_docket<H: Threads + Wait + RandomSource + Sync + Send + Copy, W: Write>(
     rt: H,
     alloc: Global,
     stdout: &mut W,
@@ -127,7 +127,7 @@ fn matched<H: Threads + Wait + RandomSource + Sync + Send + Copy, W: Write>(
 }
 
 // Audits a sheet with a blocking pair.
-fn audited<H: Threads + Wait + RandomSource + Sync + Send + Copy, W: Write>(
+fn audit_blocked_sheet<H: Threads + Wait + RandomSource + Sync + Send + Copy, W: Write>(
     rt: H,
     alloc: Global,
     stdout: &mut W,
@@ -142,7 +142,7 @@ fn audited<H: Threads + Wait + RandomSource + Sync + Send + Copy, W: Write>(
 }
 
 // Replays nineteen events from these bytes.
-fn replayed<H: Threads + Wait + RandomSource + Sync + Send + Copy, W: Write>(
+fn replay_nineteen_events<H: Threads + Wait + RandomSource + Sync + Send + Copy, W: Write>(
     rt: H,
     alloc: Global,
     journal_bytes: &[u8],
@@ -165,10 +165,15 @@ pub(super) fn call_outcome<H: Threads + Wait + RandomSource + Sync + Send + Copy
     stdout: &mut W,
 ) -> Outcome {
     match call_name {
-        "serve_match" => matched(rt, alloc, stdout),
-        "serve_audit" => audited(rt, alloc, stdout),
+        "serve_match" => match_small_docket(rt, alloc, stdout),
+        "serve_audit" => audit_blocked_sheet(rt, alloc, stdout),
         "serve_replay" => match joined(alloc, &NINETEEN_EVENTS) {
-            Ok(journal_bytes) => replayed(rt, alloc, journal_bytes.as_slice(), stdout),
+            Ok(journal_bytes) => replay_nineteen_events(
+                rt,
+                alloc,
+                journal_bytes.as_slice(),
+                stdout,
+            ),
             Err(_) => Outcome::Wrong,
         },
         "read_line" => wrong_line(alloc, stdout),

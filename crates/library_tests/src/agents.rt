@@ -75,7 +75,7 @@ fn releases_the_one_before(rt: HostRuntime) -> Result<(), Fail> {
 }
 
 // The answers that wait for A.
-const ANSWERS: [AnswerNote; 3] = [
+const ANSWERS_TO_A: [AnswerNote; 3] = [
     AnswerNote {
         resident: Y,
         kind: HOLD,
@@ -142,8 +142,8 @@ fn programme_hears<T: TakeEnd<AnswerNote> + Drop>(
 
 #[test]
 fn wishes_where_a_place_is_free(rt: HostRuntime) -> Result<(), Fail> {
-    let end = ListTake::of(ANSWERS.to_vec(rt.alloc())?);
-    assert!(rt; programme_hears(rt.alloc(), end, &ANSWERS, Heard::Nothing, &[Some(Z)]));
+    let end = ListTake::of(ANSWERS_TO_A.to_vec(rt.alloc())?);
+    assert!(rt; programme_hears(rt.alloc(), end, &ANSWERS_TO_A, Heard::Nothing, &[Some(Z)]));
     Ok(())
 }
 

@@ -121,9 +121,9 @@ impl Model for Note {
 
     ghost Value = { ℕ };
 
-    ghost view = { λ n. n.number };
+    ghost view = { λ note. note.number };
 
-    ghost inverse = { λ n. record { number = n } };
+    ghost inverse = { λ value. record { number = value } };
 }
 
 fn post<P: PutEnd<Note>>(put: &mut P, number: u32) -> bool

@@ -1,6 +1,6 @@
 //! What a gate promises, tested in runs: when `pass` is called for a receipt, when `entered` is called, and how a run
 //! stops.
-use crate::runs::{Outcome, ran, ran_on};
+use crate::runs::{Outcome, run_of, run_on};
 use exchange_core::{Capacity, Desk, Event};
 use match_model::{Instance, ModelFault, ProgrammeNo};
 use match_pool::Ending;
@@ -81,7 +81,7 @@ fn stopped_from<R: Threads + Wait + Sync + Send + Copy>(
 ) -> Option<Ending> {
     let (cap, workers) = run_setup;
     let gate = StopsFrom::new(first_pass);
-    let Ok(outcome) = ran_on(rt, alloc, inst, cap, workers, &gate) else {
+    let Ok(outcome) = run_on(rt, alloc, inst, cap, workers, &gate) else {
         return None;
     };
     if is_stopped_from(&outcome, &gate, first_pass, workers) {
@@ -156,7 +156,7 @@ fn is_stopped_by<R: Threads + Wait + Sync + Send + Copy>(
     worker: Option<usize>,
 ) -> bool {
     let gate = StopsBy::new(rt, worker);
-    let outcome = ran_on(rt, alloc, inst, Capacity::Full, workers, &gate);
+    let outcome = run_on(rt, alloc, inst, Capacity::Full, workers, &gate);
     outcome.is_ok_and(|outcome| outcome.ending == Ending::Stopped)
 }
 
@@ -238,7 +238,7 @@ fn is_held<R: Threads + Wait + Sync + Send + Copy>(
 ) -> bool {
     let (cap, workers) = run_setup;
     let gate = Stalls::new(rt, held_call);
-    let Ok(outcome) = ran_on(rt, alloc, inst, cap, workers, &gate) else {
+    let Ok(outcome) = run_on(rt, alloc, inst, cap, workers, &gate) else {
         return false;
     };
     let gate_counts = [0, 1, 2, 3, 4, 5, 6, 7].map(|worker| gate.count(worker));
@@ -277,7 +277,7 @@ fn goes_on<R: Threads + Wait + Sync + Send + Copy>(
 ) -> bool {
     let (cap, workers) = run_setup;
     let gate = HoldsEntered::new(event_number);
-    let Ok(outcome) = ran_on(rt, alloc, inst, cap, workers, &gate) else {
+    let Ok(outcome) = run_on(rt, alloc, inst, cap, workers, &gate) else {
         return false;
     };
     let gate_counts = [0, 1, 2, 3, 4, 5, 6, 7].map(|worker| gate.count(worker));
@@ -316,7 +316,7 @@ fn goes_on_beside<R: Threads + Wait + Sync + Send + Copy>(
     cap: Capacity,
 ) -> bool {
     let gate = HoldsVisit::new();
-    let outcome = ran(rt, alloc, ONE_FOR_TEN, cap, 2, &gate);
+    let outcome = run_of(rt, alloc, ONE_FOR_TEN, cap, 2, &gate);
     gate.has_held() && outcome.is_ok_and(|outcome| outcome.ending == Ending::Closed)
 }
 
@@ -337,7 +337,7 @@ const RIVALS: Members = (&[(1, &[0]), (1, &[0, 1])], &[&[0, 1], &[1]]);
 // The listed desk is that of the rejected programme, which hears of the rejection and offers again.
 fn is_woken<R: Threads + Wait + Sync + Send + Copy>(rt: R, alloc: Global, cap: Capacity) -> bool {
     let gate = Rested::new(rt, Desk::Programme(ProgrammeNo(1)));
-    let outcome = ran(rt, alloc, RIVALS, cap, 2, &gate);
+    let outcome = run_of(rt, alloc, RIVALS, cap, 2, &gate);
     gate.has_held() && outcome.is_ok_and(|outcome| outcome.ending == Ending::Closed)
 }
 

@@ -2,7 +2,7 @@
 //! workers' desks. How much this is follows from the market.
 ghost use Rattle.std.specs.Prelude.{true, false};
 
-use crate::runs::{ran, ran_on};
+use crate::runs::{run_of, run_on};
 use exchange_core::{Capacity, Desk};
 use match_model::{Instance, InstanceBuilder, ModelFault, ProgrammeNo, ResidentNo};
 use match_pool::{Ending, Gate, Go};
@@ -84,7 +84,7 @@ fn leaves_no_work<R: Threads + Wait + Sync + Send + Copy>(
 ) -> bool {
     let (members, cap, workers) = run_setup;
     let gate = UntilDone::new(rt, holds);
-    let outcome = ran(rt, alloc, members, cap, workers, &gate);
+    let outcome = run_of(rt, alloc, members, cap, workers, &gate);
     gate.has_held_all() && outcome.is_ok_and(|outcome| outcome.ending == Ending::Closed)
 }
 
@@ -214,7 +214,7 @@ fn no_work_is_left_while_a_worker_is_told_of_an_entry(rt: HostRuntime) -> Result
     for workers in [2, 3] {
         for held_event in 1..=4 * PAIRS {
             let gate = HoldsAfterEntry::new(rt, held_event);
-            let outcome = ran_on(rt, rt.alloc(), &inst, Capacity::Full, workers, &gate)?;
+            let outcome = run_on(rt, rt.alloc(), &inst, Capacity::Full, workers, &gate)?;
             assert!(rt;
                 outcome.ending == Ending::Closed && gate.all_else_entered.load(Ordering::SeqCst),
                 "event {held_event}, {workers} workers"
@@ -262,15 +262,15 @@ fn each_that_sleeps_is_woken_for_what_one_visit_gave(rt: HostRuntime) {
 fn made_crowd(alloc: Global) -> Result<Instance, ModelFault> {
     let mut builder = InstanceBuilder::new(alloc);
     let programme = builder.add_programme(70)?;
-    let mut list = Vec::new(alloc);
+    let mut ranking = Vec::new(alloc);
     for number in 0..70 {
         let resident = builder.add_resident()?;
         builder.resident_list(resident, &[programme])?;
-        let Ok(()) = list.push(ResidentNo(69 - number)) else {
+        let Ok(()) = ranking.push(ResidentNo(69 - number)) else {
             return Err(ModelFault::Memory);
         };
     }
-    builder.programme_list(programme, list.as_slice())?;
+    builder.programme_list(programme, ranking.as_slice())?;
     builder.finish().map_err(|refused| refused.fault)
 }
 
@@ -287,7 +287,7 @@ fn a_visit_that_wakes_many_lists_them_all(rt: HostRuntime) -> Result<(), Fail> {
         next_takes: NO_LATER_WAITS,
     };
     let gate = UntilDone::new(rt, holds);
-    let outcome = ran_on(rt, rt.alloc(), &inst, Capacity::Full, 2, &gate)?;
+    let outcome = run_on(rt, rt.alloc(), &inst, Capacity::Full, 2, &gate)?;
     assert!(rt; outcome.ending == Ending::Closed && gate.has_held_all());
     Ok(())
 }

@@ -22,7 +22,7 @@ pub(crate) struct Outcome {
 }
 
 // Runs the exchange of an instance, and returns the result without the ends and the agents.
-pub(crate) fn ran_on<G: Gate + Sync, R: Threads + Wait + Sync + Send + Copy>(
+pub(crate) fn run_on<G: Gate + Sync, R: Threads + Wait + Sync + Send + Copy>(
     rt: R,
     alloc: Global,
     inst: &Instance,
@@ -42,8 +42,8 @@ pub(crate) fn ran_on<G: Gate + Sync, R: Threads + Wait + Sync + Send + Copy>(
     }
 }
 
-// Runs the exchange of these members, as `ran_on` does.
-pub(crate) fn ran<G: Gate + Sync, R: Threads + Wait + Sync + Send + Copy>(
+// Runs the exchange of these members, as `run_on` does.
+pub(crate) fn run_of<G: Gate + Sync, R: Threads + Wait + Sync + Send + Copy>(
     rt: R,
     alloc: Global,
     members: Members,
@@ -52,7 +52,7 @@ pub(crate) fn ran<G: Gate + Sync, R: Threads + Wait + Sync + Send + Copy>(
     gate: &G,
 ) -> Result<Outcome, RunFault> {
     match instance_of(alloc, members) {
-        Ok(inst) => ran_on(rt, alloc, &inst, cap, workers, gate),
+        Ok(inst) => run_on(rt, alloc, &inst, cap, workers, gate),
         Err(_) => Err(RunFault::Memory),
     }
 }
@@ -66,7 +66,7 @@ fn ends_with<R: Threads + Wait + Sync + Send + Copy>(
     workers: usize,
     programmes: &[Option<u32>],
 ) -> bool {
-    match ran(rt, alloc, members, cap, workers, &OpenGate) {
+    match run_of(rt, alloc, members, cap, workers, &OpenGate) {
         Ok(outcome) => outcome.ending == Ending::Closed
             && has_places(&outcome.assignment, programmes),
         Err(_) => false,
@@ -160,7 +160,7 @@ fn is_refused<R: Threads + Wait + Sync + Send + Copy>(
     workers: usize,
     expected_fault: &RunFault,
 ) -> bool {
-    match ran(rt, alloc, TWO_BY_TWO, cap, workers, &OpenGate) {
+    match run_of(rt, alloc, TWO_BY_TWO, cap, workers, &OpenGate) {
         Ok(_) => false,
         Err(fault) => fault == *expected_fault,
     }
@@ -211,7 +211,7 @@ fn counted_events<G: Gate + Sync, R: Threads + Wait + Sync + Send + Copy>(
     gate: &G,
     held: &Held,
 ) -> Option<usize> {
-    let Ok(outcome) = ran(rt, alloc, members, Capacity::Full, workers, gate) else {
+    let Ok(outcome) = run_of(rt, alloc, members, Capacity::Full, workers, gate) else {
         return None;
     };
     if agrees_with_gate(&outcome, held) {
@@ -263,7 +263,7 @@ fn is_in_one_order(sheet: &Assignment) -> bool {
 fn two_at_once_on_their_way(rt: HostRuntime) -> Result<(), Fail> {
     let inst = made_in_one_order(rt.alloc())?;
     let firm_gate = Firm(Held::new(9_999));
-    let outcome = ran_on(rt, rt.alloc(), &inst, Capacity::Full, 2, &firm_gate);
+    let outcome = run_on(rt, rt.alloc(), &inst, Capacity::Full, 2, &firm_gate);
     assert!(rt;
         outcome.is_ok_and(|outcome| agrees_with_gate(&outcome, &firm_gate.0)
             && is_in_one_order(&outcome.assignment))
@@ -292,7 +292,7 @@ fn is_stopped(outcome: &Outcome) -> bool {
 
 #[test]
 fn heeds_a_stop(rt: HostRuntime) {
-    let outcome = ran(rt, rt.alloc(), TWO_BY_TWO, Capacity::Full, 2, &StopsAtOnce);
+    let outcome = run_of(rt, rt.alloc(), TWO_BY_TWO, Capacity::Full, 2, &StopsAtOnce);
     assert!(rt; outcome.is_ok_and(|outcome| is_stopped(&outcome)));
 }
 

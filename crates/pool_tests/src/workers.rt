@@ -1,5 +1,5 @@
 //! Runs of the pool by one to eight workers.
-use crate::runs::{Outcome, ran};
+use crate::runs::{Outcome, run_of};
 use exchange_core::{Capacity, Desk};
 use match_pool::{Ending, OpenGate};
 use std::alloc::Global;
@@ -29,7 +29,7 @@ fn is_counted(outcome: &Outcome, workers: usize) -> bool {
 #[test]
 fn one_worker_and_eight(rt: HostRuntime) {
     for workers in [1, 8] {
-        let outcome = ran(
+        let outcome = run_of(
             rt,
             rt.alloc(),
             TWO_PLACES,
@@ -98,7 +98,7 @@ fn goes_on<R: Threads + Wait + Sync + Send + Copy>(
     order: Order,
 ) -> bool {
     let gate = AllButOne::new(16, workers.saturating_sub(1) as u64, order);
-    let Ok(outcome) = ran(rt, alloc, PAIRS, Capacity::Full, workers, &gate) else {
+    let Ok(outcome) = run_of(rt, alloc, PAIRS, Capacity::Full, workers, &gate) else {
         return false;
     };
     gate.has_held_all()
@@ -131,7 +131,7 @@ fn a_worker_that_sleeps_ends_with_the_run(rt: HostRuntime) {
         next_takes: (0, Until::Entered(0)),
     };
     let gate = UntilDone::new(rt, holds);
-    let outcome = ran(rt, rt.alloc(), ONE_PAIR, Capacity::Full, 2, &gate);
+    let outcome = run_of(rt, rt.alloc(), ONE_PAIR, Capacity::Full, 2, &gate);
     assert!(rt;
         gate.has_held_all()
             && outcome.is_ok_and(|outcome| outcome.ending == Ending::Closed

@@ -2,7 +2,7 @@
 //! has to give the sheet that its journal leads to.
 ghost use Rattle.std.specs.Prelude.{true, false};
 
-use crate::runs::ran_on;
+use crate::runs::run_on;
 use exchange_core::{Capacity, Desk};
 use match_audit::check;
 use match_model::{Instance, InstanceBuilder, ModelFault, ProgrammeNo, ResidentNo};
@@ -121,7 +121,7 @@ fn busy_workers_in<R: Threads + Wait + Sync + Send + Copy>(
         clock: AtomicU64::new(0),
         earlier_calls: AtomicU64::new(random_state),
     };
-    let Ok(outcome) = ran_on(rt, alloc, inst, cap, workers, &gate) else {
+    let Ok(outcome) = run_on(rt, alloc, inst, cap, workers, &gate) else {
         return None;
     };
     let check_result = check(alloc, inst, cap, &outcome.journal, &outcome.assignment);

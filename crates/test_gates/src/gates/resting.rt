@@ -218,7 +218,7 @@ impl Gate for HoldsEntered {
 /// second wait begins, and ends when another worker has entered one more event.
 #[derive(Drop)]
 pub struct HoldsVisit {
-    has_begun: AtomicBool,
+    has_visit_begun: AtomicBool,
     first_worker: AtomicU64,
     was_held: AtomicBool,
     entry_counts: EntryCounts,
@@ -228,7 +228,7 @@ impl HoldsVisit {
     /// A gate that has counted no entry yet.
     pub fn new() -> HoldsVisit {
         HoldsVisit {
-            has_begun: AtomicBool::new(false),
+            has_visit_begun: AtomicBool::new(false),
             first_worker: AtomicU64::new(0),
             was_held: AtomicBool::new(false),
             entry_counts: EntryCounts::none(),
@@ -268,7 +268,7 @@ impl Gate for HoldsVisit {
 
     fn entered(&self, worker: usize) {
         self.entry_counts.add(worker);
-        if !self.has_begun.swap(true, Ordering::SeqCst) {
+        if !self.has_visit_begun.swap(true, Ordering::SeqCst) {
             self.first_worker.store(worker as u64, Ordering::SeqCst);
             self.wait_for_others(worker, 2);
             for _ in 0..LINGER_TURNS {
