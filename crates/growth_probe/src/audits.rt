@@ -35,17 +35,17 @@ fn is_blocked(report: &AuditReport) -> bool {
 }
 
 /// Audits a sheet with a blocking pair.
-pub(super) fn audited<W: Write>(alloc: Global, out: &mut W) -> Outcome {
+pub(super) fn audit_blocked_sheet<W: Write>(alloc: Global, stdout: &mut W) -> Outcome {
     let Some(docket) = docket_of(alloc, &[BLOCKED_DOCKET]) else {
         return Outcome::Wrong;
     };
     let Some(sheet) = docket.sheet() else {
         return Outcome::Wrong;
     };
-    mark_call_begin(out);
-    let answer = audit(alloc, docket.instance(), sheet);
-    mark_call_end(out);
-    match answer {
+    mark_call_begin(stdout);
+    let first_answer = audit(alloc, docket.instance(), sheet);
+    mark_call_end(stdout);
+    match first_answer {
         Ok(report) => Outcome::of_first_answer(is_blocked(&report)),
         Err(AuditFault::Memory) => match audit(alloc, docket.instance(), sheet) {
             Ok(report) => Outcome::after_memory_fault(is_blocked(&report)),
@@ -71,9 +71,11 @@ fn blocked_report(alloc: Global, docket: &Docket) -> Result<AuditReport, AllocEr
 }
 
 /// Writes the report about a sheet with a blocking pair.
-pub(super) fn write_blocked_report<W: Write>(alloc: Global, out: &mut W) -> Outcome {
-    let (Some(docket), Ok(mut output)) = (docket_of(alloc, &[BLOCKED_DOCKET]), output_buffer(alloc))
-    else {
+pub(super) fn write_blocked_report<W: Write>(alloc: Global, stdout: &mut W) -> Outcome {
+    let (Some(docket), Ok(mut written_bytes)) = (
+        docket_of(alloc, &[BLOCKED_DOCKET]),
+        output_buffer(alloc),
+    ) else {
         return Outcome::Wrong;
     };
     let inst = docket.instance();
@@ -83,22 +85,24 @@ pub(super) fn write_blocked_report<W: Write>(alloc: Global, out: &mut W) -> Outc
     let Ok(report) = blocked_report(alloc, &docket) else {
         return Outcome::Wrong;
     };
-    mark_call_begin(out);
-    let answer = write_report(alloc, &docket, &report, &mut output);
-    mark_call_end(out);
-    if answer == Err(DocketFault::Memory) {
-        let is_unchanged = output.is_empty() && is_blocked(&report);
-        let second_answer = write_report(alloc, &docket, &report, &mut output);
+    mark_call_begin(stdout);
+    let first_answer = write_report(alloc, &docket, &report, &mut written_bytes);
+    mark_call_end(stdout);
+    if first_answer == Err(DocketFault::Memory) {
+        let is_unchanged = written_bytes.is_empty() && is_blocked(&report);
+        let second_answer = write_report(alloc, &docket, &report, &mut written_bytes);
         let is_second_right = second_answer == Ok(())
-            && output.as_slice() == UNSTABLE_REPORT.as_bytes();
+            && written_bytes.as_slice() == UNSTABLE_REPORT.as_bytes();
         return Outcome::after_memory_fault(is_unchanged && is_second_right);
     }
-    Outcome::of_first_answer(answer == Ok(()) && output.as_slice() == UNSTABLE_REPORT.as_bytes())
+    Outcome::of_first_answer(
+        first_answer == Ok(()) && written_bytes.as_slice() == UNSTABLE_REPORT.as_bytes(),
+    )
 }
 
 // Whether a replay found nine good events, which lead to the result of the small docket.
-fn is_good(answer: &Result<Replayed, ReplayFault>) -> bool {
-    match answer {
+fn is_good(replay_answer: &Result<Replayed, ReplayFault>) -> bool {
+    match replay_answer {
         Ok(replayed) => {
             replayed.events == 9
                 && replayed.assignment.len() == 2
@@ -119,22 +123,22 @@ fn replay_of(alloc: Global, docket: &Docket) -> Result<Replayed, ReplayFault> {
 }
 
 /// Replays a journal.
-pub(super) fn replayed<W: Write>(alloc: Global, out: &mut W) -> Outcome {
+pub(super) fn replay_small_journal<W: Write>(alloc: Global, stdout: &mut W) -> Outcome {
     let Some(docket) = docket_of(alloc, &[SMALL_DOCKET, SMALL_JOURNAL]) else {
         return Outcome::Wrong;
     };
-    mark_call_begin(out);
-    let answer = replay_of(alloc, &docket);
-    mark_call_end(out);
-    if matches!(answer, Err(ReplayFault::Memory)) {
+    mark_call_begin(stdout);
+    let first_answer = replay_of(alloc, &docket);
+    mark_call_end(stdout);
+    if matches!(first_answer, Err(ReplayFault::Memory)) {
         return Outcome::after_memory_fault(is_good(&replay_of(alloc, &docket)));
     }
-    Outcome::of_first_answer(is_good(&answer))
+    Outcome::of_first_answer(is_good(&first_answer))
 }
 
 /// Writes the answer of a replay.
-pub(super) fn write_good_replay<W: Write>(alloc: Global, out: &mut W) -> Outcome {
-    let (Some(docket), Ok(mut output)) = (
+pub(super) fn write_good_replay<W: Write>(alloc: Global, stdout: &mut W) -> Outcome {
+    let (Some(docket), Ok(mut written_bytes)) = (
         docket_of(alloc, &[SMALL_DOCKET, SMALL_JOURNAL]),
         output_buffer(alloc),
     ) else {
@@ -144,16 +148,19 @@ pub(super) fn write_good_replay<W: Write>(alloc: Global, out: &mut W) -> Outcome
         return Outcome::Wrong;
     };
     let good_answer = Ok(replayed);
-    mark_call_begin(out);
-    let answer = write_replay(alloc, &docket, &good_answer, None, &mut output);
-    mark_call_end(out);
-    if answer == Err(DocketFault::Memory) {
-        let is_unchanged = output.is_empty() && is_good(&good_answer);
-        let second_answer = write_replay(alloc, &docket, &good_answer, None, &mut output);
-        let is_second_right = second_answer == Ok(()) && output.as_slice() == b"G,9\n".as_slice();
+    mark_call_begin(stdout);
+    let first_answer = write_replay(alloc, &docket, &good_answer, None, &mut written_bytes);
+    mark_call_end(stdout);
+    if first_answer == Err(DocketFault::Memory) {
+        let is_unchanged = written_bytes.is_empty() && is_good(&good_answer);
+        let second_answer = write_replay(alloc, &docket, &good_answer, None, &mut written_bytes);
+        let is_second_right = second_answer == Ok(())
+            && written_bytes.as_slice() == b"G,9\n".as_slice();
         return Outcome::after_memory_fault(is_unchanged && is_second_right);
     }
-    Outcome::of_first_answer(answer == Ok(()) && output.as_slice() == b"G,9\n".as_slice())
+    Outcome::of_first_answer(
+        first_answer == Ok(()) && written_bytes.as_slice() == b"G,9\n".as_slice(),
+    )
 }
 
 // The answer of a check of the docket's journal against its sheet; `NotClosed` if the journal or the
@@ -167,28 +174,28 @@ fn check_of(alloc: Global, docket: &Docket) -> Result<Replayed, ReplayFault> {
 }
 
 // Whether the answer is that the sheet differs for the first resident.
-fn sheet_differs(answer: &Result<Replayed, ReplayFault>) -> bool {
-    matches!(answer, Err(ReplayFault::SheetDiffers(X)))
+fn sheet_differs(check_answer: &Result<Replayed, ReplayFault>) -> bool {
+    matches!(check_answer, Err(ReplayFault::SheetDiffers(X)))
 }
 
 /// Checks a journal against another sheet, and against its own sheet.
-pub(super) fn checked<W: Write>(alloc: Global, out: &mut W) -> Outcome {
+pub(super) fn check_two_sheets<W: Write>(alloc: Global, stdout: &mut W) -> Outcome {
     let (Some(other_docket), Some(own_docket)) = (
         docket_of(alloc, &[SMALL_DOCKET, SMALL_JOURNAL, OTHER_SHEET]),
         docket_of(alloc, &[SMALL_DOCKET, SMALL_JOURNAL, SMALL_SHEET]),
     ) else {
         return Outcome::Wrong;
     };
-    mark_call_begin(out);
-    let answer = check_of(alloc, &other_docket);
-    mark_call_end(out);
+    mark_call_begin(stdout);
+    let first_answer = check_of(alloc, &other_docket);
+    mark_call_end(stdout);
     let is_own_sheet_good = is_good(&check_of(alloc, &own_docket));
-    if matches!(answer, Err(ReplayFault::Memory)) {
+    if matches!(first_answer, Err(ReplayFault::Memory)) {
         return Outcome::after_memory_fault(
             is_own_sheet_good && sheet_differs(&check_of(alloc, &other_docket)),
         );
     }
-    Outcome::of_first_answer(is_own_sheet_good && sheet_differs(&answer))
+    Outcome::of_first_answer(is_own_sheet_good && sheet_differs(&first_answer))
 }
 
 // The small docket's journal with the worker of each event. There are two workers.
@@ -206,17 +213,17 @@ fn counts_of(alloc: Global, journal: &Journal) -> Result<Vec<u64>, AuditFault>
 }
 
 /// Counts the events of two workers.
-pub(super) fn counted<W: Write>(alloc: Global, out: &mut W) -> Outcome {
+pub(super) fn count_by_worker<W: Write>(alloc: Global, stdout: &mut W) -> Outcome {
     let Some(docket) = docket_of(alloc, &[SMALL_DOCKET, JOURNAL_BY_WORKER]) else {
         return Outcome::Wrong;
     };
     let Some(journal) = docket.journal() else {
         return Outcome::Wrong;
     };
-    mark_call_begin(out);
-    let answer = counts_of(alloc, journal);
-    mark_call_end(out);
-    match answer {
+    mark_call_begin(stdout);
+    let first_answer = counts_of(alloc, journal);
+    mark_call_end(stdout);
+    match first_answer {
         Ok(counts) => Outcome::of_first_answer(counts.as_slice() == [5, 4].as_slice()),
         Err(AuditFault::Memory) => match counts_of(alloc, journal) {
             Ok(counts) => Outcome::after_memory_fault(counts.as_slice() == [5, 4].as_slice()),

@@ -26,29 +26,29 @@ fn one_member_each(alloc: Global) -> Result<InstanceBuilder, ModelFault> {
 }
 
 /// Adds a programme.
-pub(super) fn add_programme<W: Write>(alloc: Global, out: &mut W) -> Outcome {
+pub(super) fn add_programme<W: Write>(alloc: Global, stdout: &mut W) -> Outcome {
     let mut builder = InstanceBuilder::new(alloc);
-    mark_call_begin(out);
-    let answer = builder.add_programme(1);
-    mark_call_end(out);
-    if answer == Err(ModelFault::Memory) {
+    mark_call_begin(stdout);
+    let first_answer = builder.add_programme(1);
+    mark_call_end(stdout);
+    if first_answer == Err(ModelFault::Memory) {
         let is_second_right = builder.add_programme(1) == Ok(A);
         return Outcome::after_memory_fault(is_second_right && has_sizes(builder, 1, 0, 0));
     }
-    Outcome::of_first_answer(answer == Ok(A) && has_sizes(builder, 1, 0, 0))
+    Outcome::of_first_answer(first_answer == Ok(A) && has_sizes(builder, 1, 0, 0))
 }
 
 /// Adds a resident.
-pub(super) fn add_resident<W: Write>(alloc: Global, out: &mut W) -> Outcome {
+pub(super) fn add_resident<W: Write>(alloc: Global, stdout: &mut W) -> Outcome {
     let mut builder = InstanceBuilder::new(alloc);
-    mark_call_begin(out);
-    let answer = builder.add_resident();
-    mark_call_end(out);
-    if answer == Err(ModelFault::Memory) {
+    mark_call_begin(stdout);
+    let first_answer = builder.add_resident();
+    mark_call_end(stdout);
+    if first_answer == Err(ModelFault::Memory) {
         let is_second_right = builder.add_resident() == Ok(X);
         return Outcome::after_memory_fault(is_second_right && has_sizes(builder, 0, 1, 0));
     }
-    Outcome::of_first_answer(answer == Ok(X) && has_sizes(builder, 0, 1, 0))
+    Outcome::of_first_answer(first_answer == Ok(X) && has_sizes(builder, 0, 1, 0))
 }
 
 // Whether the resident's list can be given, so that the programme and the resident are an acceptable
@@ -58,18 +58,18 @@ fn pairs_with_resident(mut builder: InstanceBuilder) -> bool {
 }
 
 /// Gives a programme's list.
-pub(super) fn programme_list<W: Write>(alloc: Global, out: &mut W) -> Outcome {
+pub(super) fn programme_list<W: Write>(alloc: Global, stdout: &mut W) -> Outcome {
     let Ok(mut builder) = one_member_each(alloc) else {
         return Outcome::Wrong;
     };
-    mark_call_begin(out);
-    let answer = builder.programme_list(A, &[X]);
-    mark_call_end(out);
-    if answer == Err(ModelFault::Memory) {
+    mark_call_begin(stdout);
+    let first_answer = builder.programme_list(A, &[X]);
+    mark_call_end(stdout);
+    if first_answer == Err(ModelFault::Memory) {
         let is_second_right = builder.programme_list(A, &[X]) == Ok(());
         return Outcome::after_memory_fault(is_second_right && pairs_with_resident(builder));
     }
-    Outcome::of_first_answer(answer == Ok(()) && pairs_with_resident(builder))
+    Outcome::of_first_answer(first_answer == Ok(()) && pairs_with_resident(builder))
 }
 
 // Whether the programme's list can be given, so that the programme and the resident are an acceptable
@@ -79,18 +79,18 @@ fn pairs_with_programme(mut builder: InstanceBuilder) -> bool {
 }
 
 /// Gives a resident's list.
-pub(super) fn resident_list<W: Write>(alloc: Global, out: &mut W) -> Outcome {
+pub(super) fn resident_list<W: Write>(alloc: Global, stdout: &mut W) -> Outcome {
     let Ok(mut builder) = one_member_each(alloc) else {
         return Outcome::Wrong;
     };
-    mark_call_begin(out);
-    let answer = builder.resident_list(X, &[A]);
-    mark_call_end(out);
-    if answer == Err(ModelFault::Memory) {
+    mark_call_begin(stdout);
+    let first_answer = builder.resident_list(X, &[A]);
+    mark_call_end(stdout);
+    if first_answer == Err(ModelFault::Memory) {
         let is_second_right = builder.resident_list(X, &[A]) == Ok(());
         return Outcome::after_memory_fault(is_second_right && pairs_with_programme(builder));
     }
-    Outcome::of_first_answer(answer == Ok(()) && pairs_with_programme(builder))
+    Outcome::of_first_answer(first_answer == Ok(()) && pairs_with_programme(builder))
 }
 
 // A builder with a programme and a resident who rank each other.
@@ -102,14 +102,14 @@ fn one_pair(alloc: Global) -> Result<InstanceBuilder, ModelFault> {
 }
 
 /// Finishes a builder.
-pub(super) fn finish<W: Write>(alloc: Global, out: &mut W) -> Outcome {
+pub(super) fn finish<W: Write>(alloc: Global, stdout: &mut W) -> Outcome {
     let Ok(builder) = one_pair(alloc) else {
         return Outcome::Wrong;
     };
-    mark_call_begin(out);
-    let answer = builder.finish();
-    mark_call_end(out);
-    match answer {
+    mark_call_begin(stdout);
+    let first_answer = builder.finish();
+    mark_call_end(stdout);
+    match first_answer {
         Ok(instance) => Outcome::of_first_answer(instance.pairs() == 1),
         Err(refused) => {
             if refused.fault == ModelFault::Memory {
@@ -122,16 +122,16 @@ pub(super) fn finish<W: Write>(alloc: Global, out: &mut W) -> Outcome {
 }
 
 /// Finishes a builder with its lists.
-pub(super) fn finish_with_lists<W: Write>(alloc: Global, out: &mut W) -> Outcome {
+pub(super) fn finish_with_lists<W: Write>(alloc: Global, stdout: &mut W) -> Outcome {
     let Ok(builder) = one_pair(alloc) else {
         return Outcome::Wrong;
     };
-    mark_call_begin(out);
-    let answer = builder.finish_with_lists();
-    mark_call_end(out);
-    match answer {
-        Ok((instance, lists)) => {
-            Outcome::of_first_answer(instance.pairs() == 1 && lists.choice(X, 0) == Some(A))
+    mark_call_begin(stdout);
+    let first_answer = builder.finish_with_lists();
+    mark_call_end(stdout);
+    match first_answer {
+        Ok((instance, written_lists)) => {
+            Outcome::of_first_answer(instance.pairs() == 1 && written_lists.choice(X, 0) == Some(A))
         }
         Err(refused) => {
             if refused.fault == ModelFault::Memory {
@@ -151,11 +151,11 @@ fn is_empty(assignment: &Assignment) -> bool {
 }
 
 /// Makes an assignment of two residents.
-pub(super) fn assignment<W: Write>(alloc: Global, out: &mut W) -> Outcome {
-    mark_call_begin(out);
-    let answer = Assignment::new(alloc, 2);
-    mark_call_end(out);
-    match answer {
+pub(super) fn assignment<W: Write>(alloc: Global, stdout: &mut W) -> Outcome {
+    mark_call_begin(stdout);
+    let first_answer = Assignment::new(alloc, 2);
+    mark_call_end(stdout);
+    match first_answer {
         Ok(assignment) => Outcome::of_first_answer(is_empty(&assignment)),
         Err(ModelFault::Memory) => match Assignment::new(alloc, 2) {
             Ok(assignment) => Outcome::after_memory_fault(is_empty(&assignment)),

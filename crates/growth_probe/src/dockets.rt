@@ -22,18 +22,18 @@ pub(super) fn output_buffer(alloc: Global) -> Result<Vec<u8>, AllocError> {
 }
 
 /// These texts as one text, one after another.
-pub(super) fn joined(alloc: Global, texts: &[&str]) -> Result<Vec<u8>, AllocError> {
+pub(super) fn joined(alloc: Global, docket_parts: &[&str]) -> Result<Vec<u8>, AllocError> {
     let mut joined_bytes = Vec::new(alloc);
-    for text in texts {
-        joined_bytes.extend_from_slice(text.as_bytes())?;
+    for part in docket_parts {
+        joined_bytes.extend_from_slice(part.as_bytes())?;
     }
     Ok(joined_bytes)
 }
 
 /// The docket in these texts, read with enough memory.
-pub(super) fn docket_of(alloc: Global, texts: &[&str]) -> Option<Docket> {
-    let text = joined(alloc, texts).ok()?;
-    read_docket(&OneByte(7), alloc, text.as_slice()).ok()
+pub(super) fn docket_of(alloc: Global, docket_parts: &[&str]) -> Option<Docket> {
+    let docket_text = joined(alloc, docket_parts).ok()?;
+    read_docket(&OneByte(7), alloc, docket_text.as_slice()).ok()
 }
 
 // Whether this is the docket of `SMALL_DOCKET`.
@@ -47,11 +47,11 @@ fn is_small(docket: &Docket) -> bool {
 }
 
 /// Reads a docket.
-pub(super) fn read<W: Write>(alloc: Global, out: &mut W) -> Outcome {
-    mark_call_begin(out);
-    let answer = read_docket(&OneByte(7), alloc, SMALL_DOCKET.as_bytes());
-    mark_call_end(out);
-    match answer {
+pub(super) fn read<W: Write>(alloc: Global, stdout: &mut W) -> Outcome {
+    mark_call_begin(stdout);
+    let first_answer = read_docket(&OneByte(7), alloc, SMALL_DOCKET.as_bytes());
+    mark_call_end(stdout);
+    match first_answer {
         Ok(docket) => Outcome::of_first_answer(is_small(&docket)),
         Err(DocketFault::Memory) => match read_docket(&OneByte(7), alloc, SMALL_DOCKET.as_bytes()) {
             Ok(docket) => Outcome::after_memory_fault(is_small(&docket)),
@@ -62,21 +62,27 @@ pub(super) fn read<W: Write>(alloc: Global, out: &mut W) -> Outcome {
 }
 
 // Whether this is the docket of `SMALL_DOCKET` with its lists.
-fn is_small_with_lists(docket: &Docket, lists: &WrittenLists) -> bool {
-    is_small(docket) && lists.choice(Y, 1) == Some(B) && lists.rank_of_resident(B, Y) == Some(0)
+fn is_small_with_lists(docket: &Docket, written_lists: &WrittenLists) -> bool {
+    is_small(docket)
+        && written_lists.choice(Y, 1) == Some(B)
+        && written_lists.rank_of_resident(B, Y) == Some(0)
 }
 
 /// Reads a docket with its lists.
-pub(super) fn read_with_lists<W: Write>(alloc: Global, out: &mut W) -> Outcome {
-    mark_call_begin(out);
-    let answer = read_docket_with_lists(&OneByte(7), alloc, SMALL_DOCKET.as_bytes());
-    mark_call_end(out);
-    match answer {
-        Ok((docket, lists)) => Outcome::of_first_answer(is_small_with_lists(&docket, &lists)),
+pub(super) fn read_with_lists<W: Write>(alloc: Global, stdout: &mut W) -> Outcome {
+    mark_call_begin(stdout);
+    let first_answer = read_docket_with_lists(&OneByte(7), alloc, SMALL_DOCKET.as_bytes());
+    mark_call_end(stdout);
+    match first_answer {
+        Ok((docket, written_lists)) => Outcome::of_first_answer(is_small_with_lists(
+            &docket,
+            &written_lists,
+        )),
         Err(DocketFault::Memory) => {
             match read_docket_with_lists(&OneByte(7), alloc, SMALL_DOCKET.as_bytes()) {
-                Ok((docket, lists)) => Outcome::after_memory_fault(is_small_with_lists(
-                    &docket, &lists,
+                Ok((docket, written_lists)) => Outcome::after_memory_fault(is_small_with_lists(
+                    &docket,
+                    &written_lists,
                 )),
                 Err(_) => Outcome::Wrong,
             }
@@ -86,8 +92,8 @@ pub(super) fn read_with_lists<W: Write>(alloc: Global, out: &mut W) -> Outcome {
 }
 
 /// Writes a sheet.
-pub(super) fn write_small_sheet<W: Write>(alloc: Global, out: &mut W) -> Outcome {
-    let (Some(docket), Ok(mut output)) = (
+pub(super) fn write_small_sheet<W: Write>(alloc: Global, stdout: &mut W) -> Outcome {
+    let (Some(docket), Ok(mut written_bytes)) = (
         docket_of(alloc, &[SMALL_DOCKET, SMALL_SHEET]),
         output_buffer(alloc),
     ) else {
@@ -96,47 +102,60 @@ pub(super) fn write_small_sheet<W: Write>(alloc: Global, out: &mut W) -> Outcome
     let Some(sheet) = docket.sheet() else {
         return Outcome::Wrong;
     };
-    mark_call_begin(out);
-    let answer = write_sheet(alloc, &docket, sheet, &mut output);
-    mark_call_end(out);
-    if answer == Err(DocketFault::Memory) {
-        let is_unchanged = output.is_empty() && is_small(&docket);
-        let second_answer = write_sheet(alloc, &docket, sheet, &mut output);
+    mark_call_begin(stdout);
+    let first_answer = write_sheet(alloc, &docket, sheet, &mut written_bytes);
+    mark_call_end(stdout);
+    if first_answer == Err(DocketFault::Memory) {
+        let is_unchanged = written_bytes.is_empty() && is_small(&docket);
+        let second_answer = write_sheet(alloc, &docket, sheet, &mut written_bytes);
         let is_second_right = second_answer == Ok(())
-            && output.as_slice() == SMALL_SHEET.as_bytes();
+            && written_bytes.as_slice() == SMALL_SHEET.as_bytes();
         return Outcome::after_memory_fault(is_unchanged && is_second_right);
     }
-    Outcome::of_first_answer(answer == Ok(()) && output.as_slice() == SMALL_SHEET.as_bytes())
+    Outcome::of_first_answer(
+        first_answer == Ok(()) && written_bytes.as_slice() == SMALL_SHEET.as_bytes(),
+    )
 }
 
 const CLOSED_JOURNAL: &str = "C,full\nE,close\n";
 
 /// Writes a journal.
-pub(super) fn write_closed_journal<W: Write>(alloc: Global, out: &mut W) -> Outcome {
-    let (Some(docket), Ok(mut output)) = (docket_of(alloc, &[CLOSED_JOURNAL]), output_buffer(alloc))
-    else {
+pub(super) fn write_closed_journal<W: Write>(alloc: Global, stdout: &mut W) -> Outcome {
+    let (Some(docket), Ok(mut written_bytes)) = (
+        docket_of(alloc, &[CLOSED_JOURNAL]),
+        output_buffer(alloc),
+    ) else {
         return Outcome::Wrong;
     };
     let Some(journal) = docket.journal() else {
         return Outcome::Wrong;
     };
     let events = journal.events.as_slice();
-    mark_call_begin(out);
-    let answer = write_journal(alloc, &docket, journal.capacity, events, None, &mut output);
-    mark_call_end(out);
-    if answer == Err(DocketFault::Memory) {
-        let is_unchanged = output.is_empty() && events.len() == 1;
+    mark_call_begin(stdout);
+    let first_answer = write_journal(
+        alloc,
+        &docket,
+        journal.capacity,
+        events,
+        None,
+        &mut written_bytes,
+    );
+    mark_call_end(stdout);
+    if first_answer == Err(DocketFault::Memory) {
+        let is_unchanged = written_bytes.is_empty() && events.len() == 1;
         let second_answer = write_journal(
             alloc,
             &docket,
             journal.capacity,
             events,
             None,
-            &mut output,
+            &mut written_bytes,
         );
         let is_second_right = second_answer == Ok(())
-            && output.as_slice() == CLOSED_JOURNAL.as_bytes();
+            && written_bytes.as_slice() == CLOSED_JOURNAL.as_bytes();
         return Outcome::after_memory_fault(is_unchanged && is_second_right);
     }
-    Outcome::of_first_answer(answer == Ok(()) && output.as_slice() == CLOSED_JOURNAL.as_bytes())
+    Outcome::of_first_answer(
+        first_answer == Ok(()) && written_bytes.as_slice() == CLOSED_JOURNAL.as_bytes(),
+    )
 }

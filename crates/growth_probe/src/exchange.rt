@@ -26,15 +26,15 @@ fn refuses_a_stranger(mut core: Core, inst: &Instance) -> bool
 }
 
 /// Opens a core.
-pub(super) fn core<W: Write>(alloc: Global, out: &mut W) -> Outcome {
+pub(super) fn core<W: Write>(alloc: Global, stdout: &mut W) -> Outcome {
     let Some(docket) = docket_of(alloc, &[SMALL_DOCKET]) else {
         return Outcome::Wrong;
     };
     let inst = docket.instance();
-    mark_call_begin(out);
-    let answer = Core::new(alloc, inst, Capacity::Full);
-    mark_call_end(out);
-    match answer {
+    mark_call_begin(stdout);
+    let first_answer = Core::new(alloc, inst, Capacity::Full);
+    mark_call_end(stdout);
+    match first_answer {
         Ok(core) => Outcome::of_first_answer(refuses_a_stranger(core, inst)),
         Err(CoreFault::Memory) => match Core::new(alloc, inst, Capacity::Full) {
             Ok(core) => Outcome::after_memory_fault(refuses_a_stranger(core, inst)),
@@ -58,12 +58,12 @@ fn has_two_places<R: Wait + Copy>(mut put: RuledPut<u32, R>, mut take: RuledTake
 pub(super) fn mailbox_of_two<R: Wait + Copy + Drop, W: Write>(
     rt: R,
     alloc: Global,
-    out: &mut W,
+    stdout: &mut W,
 ) -> Outcome {
-    mark_call_begin(out);
-    let answer = mailbox::<u32, R>(alloc, rt, 2);
-    mark_call_end(out);
-    match answer {
+    mark_call_begin(stdout);
+    let first_answer = mailbox::<u32, R>(alloc, rt, 2);
+    mark_call_end(stdout);
+    match first_answer {
         Ok((put, take)) => Outcome::of_first_answer(has_two_places(put, take)),
         Err(MailFault::Memory) => match mailbox::<u32, R>(alloc, rt, 2) {
             Ok((put, take)) => Outcome::after_memory_fault(has_two_places(put, take)),
@@ -79,11 +79,11 @@ fn has_one_place(mut list: ListPut<u32>) -> bool {
 }
 
 /// Opens a list with room for one message.
-pub(super) fn list_put<W: Write>(alloc: Global, out: &mut W) -> Outcome {
-    mark_call_begin(out);
-    let answer = ListPut::with_room(alloc, 1);
-    mark_call_end(out);
-    match answer {
+pub(super) fn list_put<W: Write>(alloc: Global, stdout: &mut W) -> Outcome {
+    mark_call_begin(stdout);
+    let first_answer = ListPut::with_room(alloc, 1);
+    mark_call_end(stdout);
+    match first_answer {
         Ok(list) => Outcome::of_first_answer(has_one_place(list)),
         Err(MailFault::Memory) => match ListPut::with_room(alloc, 1) {
             Ok(list) => Outcome::after_memory_fault(has_one_place(list)),
@@ -124,7 +124,7 @@ fn hears_two_answers<T: TakeEnd<AnswerNote>>(agent: &mut ProgrammeAgent<T>) -> b
 }
 
 /// Opens a programme's agent over an end with two answers.
-pub(super) fn programme_agent<W: Write>(alloc: Global, out: &mut W) -> Outcome {
+pub(super) fn programme_agent<W: Write>(alloc: Global, stdout: &mut W) -> Outcome {
     let (Some(docket), Ok(waiting_answers)) = (
         docket_of(alloc, &[QUOTAS_DOCKET]),
         two_answers(alloc),
@@ -135,10 +135,10 @@ pub(super) fn programme_agent<W: Write>(alloc: Global, out: &mut W) -> Outcome {
     if inst.programmes() != 2 {
         return Outcome::Wrong;
     }
-    mark_call_begin(out);
-    let answer = ProgrammeAgent::open(alloc, inst, A, waiting_answers);
-    mark_call_end(out);
-    match answer {
+    mark_call_begin(stdout);
+    let first_answer = ProgrammeAgent::open(alloc, inst, A, waiting_answers);
+    mark_call_end(stdout);
+    match first_answer {
         Ok(mut agent) => Outcome::of_first_answer(hears_two_answers(&mut agent)),
         Err(refused) => match ProgrammeAgent::open(alloc, inst, A, refused.end) {
             Ok(mut agent) => Outcome::after_memory_fault(hears_two_answers(&mut agent)),
@@ -163,7 +163,7 @@ fn takes_one_offer<T: TakeEnd<OfferNote>>(agent: &mut ResidentAgent<T>) -> bool 
 }
 
 /// Opens a resident's agent over an end with two offers.
-pub(super) fn resident_agent<W: Write>(alloc: Global, out: &mut W) -> Outcome {
+pub(super) fn resident_agent<W: Write>(alloc: Global, stdout: &mut W) -> Outcome {
     let (Some(docket), Ok(waiting_offers)) = (docket_of(alloc, &[QUOTAS_DOCKET]), two_offers(alloc))
     else {
         return Outcome::Wrong;
@@ -172,10 +172,10 @@ pub(super) fn resident_agent<W: Write>(alloc: Global, out: &mut W) -> Outcome {
     if inst.residents() != 3 {
         return Outcome::Wrong;
     }
-    mark_call_begin(out);
-    let answer = ResidentAgent::open(alloc, inst, X, waiting_offers);
-    mark_call_end(out);
-    match answer {
+    mark_call_begin(stdout);
+    let first_answer = ResidentAgent::open(alloc, inst, X, waiting_offers);
+    mark_call_end(stdout);
+    match first_answer {
         Ok(mut agent) => Outcome::of_first_answer(takes_one_offer(&mut agent)),
         Err(refused) => match ResidentAgent::open(alloc, inst, X, refused.end) {
             Ok(mut agent) => Outcome::after_memory_fault(takes_one_offer(&mut agent)),
@@ -192,14 +192,14 @@ fn closes_as_expected<R: Threads + Wait + Sync + Send + Copy>(
 ) -> Result<bool, RunFault> {
     match run(rt, alloc, inst, Capacity::Full, 2, &OpenGate) {
         Ok(finished_run) => {
-            let mut is_right = finished_run.ending == Ending::Closed
+            let mut is_answer_right = finished_run.ending == Ending::Closed
                 && finished_run.assignment.len() == 3;
             for (resident, programme) in [(X, B), (Y, A), (Z, A)] {
-                is_right = is_right
+                is_answer_right = is_answer_right
                     && resident.0 < finished_run.assignment.len()
                     && finished_run.assignment.get(resident) == Some(programme);
             }
-            Ok(is_right)
+            Ok(is_answer_right)
         }
         Err(fault) => Err(fault),
     }
@@ -209,18 +209,18 @@ fn closes_as_expected<R: Threads + Wait + Sync + Send + Copy>(
 pub(super) fn whole_run<R: Threads + Wait + Sync + Send + Copy, W: Write>(
     rt: R,
     alloc: Global,
-    out: &mut W,
+    stdout: &mut W,
 ) -> Outcome {
     let Some(docket) = docket_of(alloc, &[QUOTAS_DOCKET]) else {
         return Outcome::Wrong;
     };
     let inst = docket.instance();
-    mark_call_begin(out);
-    let answer = closes_as_expected(rt, alloc, inst);
-    mark_call_end(out);
-    let lacks_memory = answer == Err(RunFault::Memory);
-    if !lacks_memory && answer != Err(RunFault::Thread) {
-        return Outcome::of_first_answer(answer == Ok(true));
+    mark_call_begin(stdout);
+    let first_answer = closes_as_expected(rt, alloc, inst);
+    mark_call_end(stdout);
+    let lacks_memory = first_answer == Err(RunFault::Memory);
+    if !lacks_memory && first_answer != Err(RunFault::Thread) {
+        return Outcome::of_first_answer(first_answer == Ok(true));
     }
     let is_second_right = closes_as_expected(rt, alloc, inst) == Ok(true);
     if lacks_memory {

@@ -45,7 +45,7 @@ fn enters_nothing<J: ExchangeIdentity, P: PutEnd<OfferNote>, Q: PutEnd<AnswerNot
 }
 
 // Opens a ledger over these ends. Returns whether the ledger is empty and accepts no event, or its fault with the ends.
-fn opened_as<J: ExchangeIdentity>(
+fn ledger_opened_as<J: ExchangeIdentity>(
     alloc: Global,
     blank: Blank,
     inst: &Instance,
@@ -72,7 +72,7 @@ fn opened_as<J: ExchangeIdentity>(
     }
 }
 
-// Opens a ledger as `opened_as` does, for a new exchange.
+// Opens a ledger as `ledger_opened_as` does, for a new exchange.
 fn opened_anew(alloc: Global, inst: &Instance, ends: Ends) -> Result<bool, (LedgerFault, Ends)>
     requires offer_ends { (i : ℕ) (end : PutList ℕ)
         → slice_get ends.0.items i ≡ Some end → end.puts ≡ [] }
@@ -80,11 +80,11 @@ fn opened_anew(alloc: Global, inst: &Instance, ends: Ends) -> Result<bool, (Ledg
         → slice_get ends.1.items i ≡ Some end → end.puts ≡ [] }
     ensures handed_back { IfErr result (λ refused. refused.1 ≡ ends) }
 {
-    opened_as::<Brand>(alloc, Blank::new(8), inst, Capacity::Full, ends)
+    ledger_opened_as::<Brand>(alloc, Blank::new(8), inst, Capacity::Full, ends)
 }
 
 /// Opens a ledger of the small docket, over ends without room.
-pub(super) fn opened<W: Write>(alloc: Global, out: &mut W) -> Outcome {
+pub(super) fn open_full_ledger<W: Write>(alloc: Global, stdout: &mut W) -> Outcome {
     let (Some(docket), Ok(offer_ends), Ok(answer_ends)) = (
         docket_of(alloc, &[SMALL_DOCKET]),
         two_full_ends::<OfferNote>(alloc),
@@ -92,11 +92,11 @@ pub(super) fn opened<W: Write>(alloc: Global, out: &mut W) -> Outcome {
     ) else {
         return Outcome::Wrong;
     };
-    mark_call_begin(out);
-    let answer = opened_anew(alloc, docket.instance(), (offer_ends, answer_ends));
-    mark_call_end(out);
-    match answer {
-        Ok(is_right) => Outcome::of_first_answer(is_right),
+    mark_call_begin(stdout);
+    let first_answer = opened_anew(alloc, docket.instance(), (offer_ends, answer_ends));
+    mark_call_end(stdout);
+    match first_answer {
+        Ok(is_answer_right) => Outcome::of_first_answer(is_answer_right),
         Err((LedgerFault::Memory, ends)) => {
             let second_answer = opened_anew(alloc, docket.instance(), ends);
             Outcome::after_memory_fault(matches!(second_answer, Ok(true)))

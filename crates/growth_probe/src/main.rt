@@ -53,39 +53,39 @@ const CALLS: [&str; 28] = [
     "read_line",
 ];
 
-// Makes the call with this name, and writes a mark to `out` before the call and one after it.
+// Makes the call with this name, and writes a mark to `stdout` before the call and one after it.
 fn call_outcome<H: Threads + Wait + RandomSource + Sync + Send + Copy + Drop, W: Write>(
     rt: H,
     alloc: Global,
-    name: &str,
-    out: &mut W,
+    call_name: &str,
+    stdout: &mut W,
 ) -> Outcome {
-    match name {
-        "add_programme" => builder::add_programme(alloc, out),
-        "add_resident" => builder::add_resident(alloc, out),
-        "programme_list" => builder::programme_list(alloc, out),
-        "resident_list" => builder::resident_list(alloc, out),
-        "finish" => builder::finish(alloc, out),
-        "finish_with_lists" => builder::finish_with_lists(alloc, out),
-        "assignment" => builder::assignment(alloc, out),
-        "read_docket" => dockets::read(alloc, out),
-        "read_docket_with_lists" => dockets::read_with_lists(alloc, out),
-        "write_sheet" => dockets::write_small_sheet(alloc, out),
-        "write_journal" => dockets::write_closed_journal(alloc, out),
-        "core" => exchange::core(alloc, out),
-        "mailbox" => exchange::mailbox_of_two(rt, alloc, out),
-        "list_put" => exchange::list_put(alloc, out),
-        "ledger" => ledger::opened(alloc, out),
-        "programme_agent" => exchange::programme_agent(alloc, out),
-        "resident_agent" => exchange::resident_agent(alloc, out),
-        "run" => exchange::whole_run(rt, alloc, out),
-        "audit" => audits::audited(alloc, out),
-        "write_report" => audits::write_blocked_report(alloc, out),
-        "replay" => audits::replayed(alloc, out),
-        "write_replay" => audits::write_good_replay(alloc, out),
-        "check" => audits::checked(alloc, out),
-        "counts" => audits::counted(alloc, out),
-        _ => serving::call_outcome(rt, alloc, name, out),
+    match call_name {
+        "add_programme" => builder::add_programme(alloc, stdout),
+        "add_resident" => builder::add_resident(alloc, stdout),
+        "programme_list" => builder::programme_list(alloc, stdout),
+        "resident_list" => builder::resident_list(alloc, stdout),
+        "finish" => builder::finish(alloc, stdout),
+        "finish_with_lists" => builder::finish_with_lists(alloc, stdout),
+        "assignment" => builder::assignment(alloc, stdout),
+        "read_docket" => dockets::read(alloc, stdout),
+        "read_docket_with_lists" => dockets::read_with_lists(alloc, stdout),
+        "write_sheet" => dockets::write_small_sheet(alloc, stdout),
+        "write_journal" => dockets::write_closed_journal(alloc, stdout),
+        "core" => exchange::core(alloc, stdout),
+        "mailbox" => exchange::mailbox_of_two(rt, alloc, stdout),
+        "list_put" => exchange::list_put(alloc, stdout),
+        "ledger" => ledger::open_full_ledger(alloc, stdout),
+        "programme_agent" => exchange::programme_agent(alloc, stdout),
+        "resident_agent" => exchange::resident_agent(alloc, stdout),
+        "run" => exchange::whole_run(rt, alloc, stdout),
+        "audit" => audits::audit_blocked_sheet(alloc, stdout),
+        "write_report" => audits::write_blocked_report(alloc, stdout),
+        "replay" => audits::replay_small_journal(alloc, stdout),
+        "write_replay" => audits::write_good_replay(alloc, stdout),
+        "check" => audits::check_two_sheets(alloc, stdout),
+        "counts" => audits::count_by_worker(alloc, stdout),
+        _ => serving::call_outcome(rt, alloc, call_name, stdout),
     }
 }
 
@@ -99,12 +99,12 @@ fn words(rt: &HostRuntime) -> io::Result<Vec<String>> {
 fn call_and_print<H: Threads + Wait + RandomSource + Sync + Send + Copy + Drop, W: Write>(
     rt: H,
     alloc: Global,
-    name: &str,
-    out: &mut W,
+    call_name: &str,
+    stdout: &mut W,
 ) -> bool {
-    let outcome = call_outcome(rt, alloc, name, out);
-    let text = outcome.text();
-    writeln!(out, "{name} {text}").is_ok() && outcome != Outcome::Wrong
+    let outcome = call_outcome(rt, alloc, call_name, stdout);
+    let outcome_word = outcome.word();
+    writeln!(stdout, "{call_name} {outcome_word}").is_ok() && outcome != Outcome::Wrong
 }
 
 fn main(rt: HostRuntime) -> ExitCode {
@@ -112,13 +112,13 @@ fn main(rt: HostRuntime) -> ExitCode {
         return ExitCode::FAILURE;
     };
     let alloc = rt.alloc();
-    let out = &mut io::writer(&rt);
+    let stdout = &mut io::writer(&rt);
     let mut are_calls_right = true;
     match words.first() {
-        Some(name) => are_calls_right = call_and_print(rt, alloc, name.as_str(), out),
+        Some(call_name) => are_calls_right = call_and_print(rt, alloc, call_name.as_str(), stdout),
         None => {
-            for name in CALLS {
-                are_calls_right = call_and_print(rt, alloc, name, out) && are_calls_right;
+            for call_name in CALLS {
+                are_calls_right = call_and_print(rt, alloc, call_name, stdout) && are_calls_right;
             }
         }
     }

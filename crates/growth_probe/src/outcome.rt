@@ -16,29 +16,29 @@ pub(super) enum Outcome {
 }
 
 impl Outcome {
-    /// What a call did that answered without a fault; `is_right` says whether its answer was right.
-    pub(super) fn of_first_answer(is_right: bool) -> Outcome {
-        if is_right {
+    /// What a call did that answered without a fault; `is_answer_right` says whether its answer was right.
+    pub(super) fn of_first_answer(is_answer_right: bool) -> Outcome {
+        if is_answer_right {
             Outcome::Answered
         } else {
             Outcome::Wrong
         }
     }
 
-    /// What a call did that first answered that memory ran out; `is_right` says whether its second answer
+    /// What a call did that first answered that memory ran out; `is_answer_right` says whether its second answer
     /// was right.
-    pub(super) fn after_memory_fault(is_right: bool) -> Outcome {
-        if is_right {
+    pub(super) fn after_memory_fault(is_answer_right: bool) -> Outcome {
+        if is_answer_right {
             Outcome::WantedMemory
         } else {
             Outcome::Wrong
         }
     }
 
-    /// What a call did that first answered that a worker could not be started; `is_right` says whether its
+    /// What a call did that first answered that a worker could not be started; `is_answer_right` says whether its
     /// second answer was right.
-    pub(super) fn after_thread_fault(is_right: bool) -> Outcome {
-        if is_right {
+    pub(super) fn after_thread_fault(is_answer_right: bool) -> Outcome {
+        if is_answer_right {
             Outcome::WantedThread
         } else {
             Outcome::Wrong
@@ -46,7 +46,7 @@ impl Outcome {
     }
 
     /// The word for what the call did.
-    pub(super) fn text(self) -> &'static str {
+    pub(super) fn word(self) -> &'static str {
         match self {
             Outcome::Answered => "answered",
             Outcome::WantedMemory => "memory",
@@ -57,11 +57,11 @@ impl Outcome {
 }
 
 /// Writes the mark after which growths of memory are counted.
-pub(super) fn mark_call_begin<W: Write>(out: &mut W) {
-    let _ = out.write_all(b"call\n");
+pub(super) fn mark_call_begin<W: Write>(stdout: &mut W) {
+    let _ = stdout.write_all(b"call\n");
 }
 
 /// Writes the mark after which no growth of memory is counted.
-pub(super) fn mark_call_end<W: Write>(out: &mut W) {
-    let _ = out.write_all(b"done\n");
+pub(super) fn mark_call_end<W: Write>(stdout: &mut W) {
+    let _ = stdout.write_all(b"done\n");
 }

@@ -24,9 +24,9 @@ const NINETEEN_EVENTS: [&str; 3] = [
 ];
 
 // Whether the answer is that memory ran out.
-fn lacks_memory(answer: &Result<Status, ServeFault>) -> bool {
+fn lacks_memory(serve_answer: &Result<Status, ServeFault>) -> bool {
     matches!(
-        answer,
+        serve_answer,
         Err(
             ServeFault::Memory
                 | ServeFault::Docket(DocketFault::Memory)
@@ -60,29 +60,32 @@ impl Trial<'_> {
         }
     }
 
-    fn is_served(&self, answer: &Result<Status, ServeFault>, output: &[u8]) -> bool {
-        *answer == Ok(self.expected_status) && output == self.expected_text.as_bytes()
+    fn is_served(&self, serve_answer: &Result<Status, ServeFault>, written_bytes: &[u8]) -> bool {
+        *serve_answer == Ok(self.expected_status) && written_bytes == self.expected_text.as_bytes()
     }
 
     fn outcome<H: Threads + Wait + RandomSource + Sync + Send + Copy, W: Write>(
         &self,
         rt: H,
         alloc: Global,
-        out: &mut W,
+        stdout: &mut W,
     ) -> Outcome {
-        let Ok(mut output) = output_buffer(alloc) else {
+        let Ok(mut written_bytes) = output_buffer(alloc) else {
             return Outcome::Wrong;
         };
-        mark_call_begin(out);
-        let answer = self.serve(rt, alloc, &mut output);
-        mark_call_end(out);
-        let lacks_thread = matches!(answer, Err(ServeFault::Run(RunFault::Thread)));
-        if !lacks_thread && !lacks_memory(&answer) {
-            return Outcome::of_first_answer(self.is_served(&answer, output.as_slice()));
+        mark_call_begin(stdout);
+        let first_answer = self.serve(rt, alloc, &mut written_bytes);
+        mark_call_end(stdout);
+        let lacks_thread = matches!(first_answer, Err(ServeFault::Run(RunFault::Thread)));
+        if !lacks_thread && !lacks_memory(&first_answer) {
+            return Outcome::of_first_answer(self.is_served(
+                &first_answer,
+                written_bytes.as_slice(),
+            ));
         }
-        let is_unchanged = output.is_empty();
-        let second_answer = self.serve(rt, alloc, &mut output);
-        if !is_unchanged || !self.is_served(&second_answer, output.as_slice()) {
+        let is_unchanged = written_bytes.is_empty();
+        let second_answer = self.serve(rt, alloc, &mut written_bytes);
+        if !is_unchanged || !self.is_served(&second_answer, written_bytes.as_slice()) {
             Outcome::Wrong
         } else if lacks_thread {
             Outcome::WantedThread
@@ -93,13 +96,13 @@ impl Trial<'_> {
 }
 
 // Reads a command line that has a wrong number of workers.
-fn wrong_line<W: Write>(alloc: Global, out: &mut W) -> Outcome {
-    let words = ["match", "--workers", "9"];
-    mark_call_begin(out);
-    let answer = read_line(alloc, &words);
-    mark_call_end(out);
-    match answer {
-        Err(LineFault::Memory) => match read_line(alloc, &words) {
+fn wrong_line<W: Write>(alloc: Global, stdout: &mut W) -> Outcome {
+    let line_words = ["match", "--workers", "9"];
+    mark_call_begin(stdout);
+    let first_answer = read_line(alloc, &line_words);
+    mark_call_end(stdout);
+    match first_answer {
+        Err(LineFault::Memory) => match read_line(alloc, &line_words) {
             Err(fault) => Outcome::after_memory_fault(line_status(&fault) == 2),
             Ok(_) => Outcome::Wrong,
         },
@@ -109,10 +112,10 @@ fn wrong_line<W: Write>(alloc: Global, out: &mut W) -> Outcome {
 }
 
 // Matches the small docket.
-fn matched<H: Threads + Wait + RandomSource + Sync + Send + Copy, W: Write>(
+fn match_small_docket<H: Threads + Wait + RandomSource + Sync + Send + Copy, W: Write>(
     rt: H,
     alloc: Global,
-    out: &mut W,
+    stdout: &mut W,
 ) -> Outcome {
     let trial = Trial {
         order: Order::Match(MatchOptions::default()),
@@ -120,14 +123,14 @@ fn matched<H: Threads + Wait + RandomSource + Sync + Send + Copy, W: Write>(
         expected_status: Status::Closed,
         expected_text: SMALL_SHEET,
     };
-    trial.outcome(rt, alloc, out)
+    trial.outcome(rt, alloc, stdout)
 }
 
 // Audits a sheet with a blocking pair.
-fn audited<H: Threads + Wait + RandomSource + Sync + Send + Copy, W: Write>(
+fn audit_blocked_sheet<H: Threads + Wait + RandomSource + Sync + Send + Copy, W: Write>(
     rt: H,
     alloc: Global,
-    out: &mut W,
+    stdout: &mut W,
 ) -> Outcome {
     let trial = Trial {
         order: Order::Audit,
@@ -135,15 +138,15 @@ fn audited<H: Threads + Wait + RandomSource + Sync + Send + Copy, W: Write>(
         expected_status: Status::Unstable,
         expected_text: "S,unstable\nB,y,a\n",
     };
-    trial.outcome(rt, alloc, out)
+    trial.outcome(rt, alloc, stdout)
 }
 
 // Replays nineteen events from these bytes.
-fn replayed<H: Threads + Wait + RandomSource + Sync + Send + Copy, W: Write>(
+fn replay_nineteen_events<H: Threads + Wait + RandomSource + Sync + Send + Copy, W: Write>(
     rt: H,
     alloc: Global,
     journal_bytes: &[u8],
-    out: &mut W,
+    stdout: &mut W,
 ) -> Outcome {
     let trial = Trial {
         order: Order::Replay,
@@ -151,24 +154,29 @@ fn replayed<H: Threads + Wait + RandomSource + Sync + Send + Copy, W: Write>(
         expected_status: Status::ReplayGood,
         expected_text: "G,19\n",
     };
-    trial.outcome(rt, alloc, out)
+    trial.outcome(rt, alloc, stdout)
 }
 
 /// Makes the call with this name. The result is wrong if there is no such call.
 pub(super) fn call_outcome<H: Threads + Wait + RandomSource + Sync + Send + Copy, W: Write>(
     rt: H,
     alloc: Global,
-    name: &str,
-    out: &mut W,
+    call_name: &str,
+    stdout: &mut W,
 ) -> Outcome {
-    match name {
-        "serve_match" => matched(rt, alloc, out),
-        "serve_audit" => audited(rt, alloc, out),
+    match call_name {
+        "serve_match" => match_small_docket(rt, alloc, stdout),
+        "serve_audit" => audit_blocked_sheet(rt, alloc, stdout),
         "serve_replay" => match joined(alloc, &NINETEEN_EVENTS) {
-            Ok(journal_bytes) => replayed(rt, alloc, journal_bytes.as_slice(), out),
+            Ok(journal_bytes) => replay_nineteen_events(
+                rt,
+                alloc,
+                journal_bytes.as_slice(),
+                stdout,
+            ),
             Err(_) => Outcome::Wrong,
         },
-        "read_line" => wrong_line(alloc, out),
+        "read_line" => wrong_line(alloc, stdout),
         _ => Outcome::Wrong,
     }
 }

@@ -38,14 +38,14 @@ const RESIDENT_TURNS: [ResidentTurn; 3] = [
 fn takes_so<T: TakeEnd<OfferNote> + Drop>(
     run: &mut ResidentRun<T>,
     wanted_turns: &[ResidentTurn],
-    log: &[OfferNote],
+    expected_log: &[OfferNote],
 ) -> bool {
     for (heard, given_answers) in wanted_turns {
         if run.take() != *heard || run.give_two() != *given_answers {
             return false;
         }
     }
-    run.log() == log
+    run.log() == expected_log
 }
 
 // Opens the desk of X over this end. Returns whether the desk takes offers and gives answers as expected.
@@ -53,7 +53,7 @@ fn resident_takes<T: TakeEnd<OfferNote> + Drop>(
     alloc: Global,
     end: T,
     wanted_turns: &[ResidentTurn],
-    log: &[OfferNote],
+    expected_log: &[OfferNote],
 ) -> bool
     requires { T.taken end ≡ [] }
 {
@@ -61,21 +61,21 @@ fn resident_takes<T: TakeEnd<OfferNote> + Drop>(
         return false;
     };
     match ResidentRun::open(alloc, inst, X, end) {
-        Some(mut run) => takes_so(&mut run, wanted_turns, log),
+        Some(mut run) => takes_so(&mut run, wanted_turns, expected_log),
         None => false,
     }
 }
 
 #[test]
 fn releases_the_one_before(rt: HostRuntime) -> Result<(), Fail> {
-    let log = [OFFER_OF_A, OFFER_OF_B];
-    let end = ListTake::of(log.to_vec(rt.alloc())?);
-    assert!(rt; resident_takes(rt.alloc(), end, &RESIDENT_TURNS, &log));
+    let expected_log = [OFFER_OF_A, OFFER_OF_B];
+    let end = ListTake::of(expected_log.to_vec(rt.alloc())?);
+    assert!(rt; resident_takes(rt.alloc(), end, &RESIDENT_TURNS, &expected_log));
     Ok(())
 }
 
 // The answers that wait for A.
-const ANSWERS: [AnswerNote; 3] = [
+const ANSWERS_TO_A: [AnswerNote; 3] = [
     AnswerNote {
         resident: Y,
         kind: HOLD,
@@ -142,8 +142,8 @@ fn programme_hears<T: TakeEnd<AnswerNote> + Drop>(
 
 #[test]
 fn wishes_where_a_place_is_free(rt: HostRuntime) -> Result<(), Fail> {
-    let end = ListTake::of(ANSWERS.to_vec(rt.alloc())?);
-    assert!(rt; programme_hears(rt.alloc(), end, &ANSWERS, Heard::Nothing, &[Some(Z)]));
+    let end = ListTake::of(ANSWERS_TO_A.to_vec(rt.alloc())?);
+    assert!(rt; programme_hears(rt.alloc(), end, &ANSWERS_TO_A, Heard::Nothing, &[Some(Z)]));
     Ok(())
 }
 

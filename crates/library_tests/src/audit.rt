@@ -10,14 +10,17 @@ use test_support::events::{
 use test_support::instances::{Members, TWO_BY_TWO, TWO_PLACES, instance_of};
 
 // The sheet that matches each resident with the programme that has this number, or with none.
-fn sheet(alloc: Global, places: &[Option<u32>]) -> Result<Assignment, ModelFault> {
-    let Ok(residents) = u32::try_from(places.len()) else {
+fn sheet(alloc: Global, programmes: &[Option<u32>]) -> Result<Assignment, ModelFault> {
+    let Ok(residents) = u32::try_from(programmes.len()) else {
         return Err(ModelFault::TooManyResidents);
     };
     let mut sheet = Assignment::new(alloc, residents)?;
-    for (resident, place) in (0..sheet.len()).zip(places) {
+    for (resident, programme) in (0..sheet.len()).zip(programmes) {
         if resident < sheet.len() {
-            sheet.set(ResidentNo(resident), place.map(|p| ProgrammeNo(p)));
+            sheet.set(
+                ResidentNo(resident),
+                programme.map(|number| ProgrammeNo(number)),
+            );
         }
     }
     Ok(sheet)
@@ -31,8 +34,11 @@ fn joined_events(alloc: Global, event_lists: &[&[Event]]) -> Result<Vec<Event>, 
     Ok(events)
 }
 
-fn refused_at(place: usize, refused: Refused) -> Result<usize, ReplayFault> {
-    Err(ReplayFault::At { place, refused })
+fn refused_at(event_number: usize, refusal: Refused) -> Result<usize, ReplayFault> {
+    Err(ReplayFault::At {
+        place: event_number,
+        refused: refusal,
+    })
 }
 
 // The three lists of a report, with members as numbers.
@@ -53,10 +59,10 @@ fn are_over_quota(
     wanted_programmes: &[(u32, u32)],
 ) -> bool {
     found_programmes.len() == wanted_programmes.len()
-        && found_programmes.iter().zip(wanted_programmes).all(|((programme, residents), wanted)| (
-            programme.0,
-            *residents,
-        ) == *wanted)
+        && found_programmes.iter().zip(wanted_programmes).all(|(
+            (programme, residents),
+            wanted_programme,
+        )| (programme.0, *residents) == *wanted_programme)
 }
 
 // Whether the report has the expected lists, and says that the sheet is stable exactly if all of them are empty.
@@ -75,11 +81,11 @@ fn has_found(report: &AuditReport, findings: Findings) -> bool {
 fn finds(
     alloc: Global,
     members: Members,
-    places: &[Option<u32>],
+    programmes: &[Option<u32>],
     findings: Findings,
 ) -> Result<bool, ModelFault> {
     let instance = instance_of(alloc, members)?;
-    let sheet = sheet(alloc, places)?;
+    let sheet = sheet(alloc, programmes)?;
     match audit(alloc, &instance, &sheet) {
         Ok(report) => Ok(has_found(&report, findings)),
         Err(_) => Ok(false),
@@ -99,8 +105,8 @@ const AUDITED_SHEETS: [(Members, &[Option<u32>], Findings); 4] = [
 
 #[test]
 fn audits_sheets(rt: HostRuntime) -> Result<(), Fail> {
-    for (members, places, findings) in AUDITED_SHEETS {
-        assert!(rt; finds(rt.alloc(), members, places, findings)?);
+    for (members, programmes, findings) in AUDITED_SHEETS {
+        assert!(rt; finds(rt.alloc(), members, programmes, findings)?);
     }
     Ok(())
 }
@@ -178,10 +184,10 @@ fn replays_lists(rt: HostRuntime) {
         (0, &[offer(A, Y)], refused_at(1, Refused::NotNext)),
         (0, &two_taken_events, refused_at(4, Refused::AnswerDue)),
     ];
-    for (kept_count, added_events, wanted) in cases {
+    for (kept_count, added_events, expected_result) in cases {
         assert!(rt;
-            events_replayed_after(rt.alloc(), kept_count, added_events) == wanted,
-            "{wanted:?}"
+            events_replayed_after(rt.alloc(), kept_count, added_events) == expected_result,
+            "{expected_result:?}"
         );
     }
 }
@@ -198,9 +204,9 @@ fn replays_under_a_capacity(rt: HostRuntime) {
         (0, &good_events, Err(ReplayFault::BadCapacity)),
         (1025, &good_events, Err(ReplayFault::BadCapacity)),
     ];
-    for (room, events, wanted) in cases {
+    for (room, events, expected_result) in cases {
         let replay_result = events_replayed(rt.alloc(), TWO_PLACES, Capacity::Each(room), events);
-        assert!(rt; replay_result == wanted, "{wanted:?}");
+        assert!(rt; replay_result == expected_result, "{expected_result:?}");
     }
 }
 
@@ -208,10 +214,10 @@ fn replays_under_a_capacity(rt: HostRuntime) {
 fn chosen_events(
     alloc: Global,
     events: &[Event],
-    indices: &[usize],
+    event_indices: &[usize],
 ) -> Result<Vec<Event>, AllocError> {
     let mut chosen = Vec::new(alloc);
-    for index in indices {
+    for index in event_indices {
         if let Some(event) = events.get(*index) {
             chosen.push(*event)?;
         }
@@ -260,10 +266,10 @@ const FORGED_LISTS: [(&[usize], Result<usize, ReplayFault>); 6] = [
 fn sees_forged_lists(rt: HostRuntime) -> Result<(), Fail> {
     let alloc = rt.alloc();
     let good_events = nine_events();
-    for (indices, wanted) in FORGED_LISTS {
-        let events = chosen_events(alloc, &good_events, indices)?;
+    for (event_indices, expected_result) in FORGED_LISTS {
+        let events = chosen_events(alloc, &good_events, event_indices)?;
         let replay_result = events_replayed(alloc, TWO_BY_TWO, Capacity::Full, events.as_slice());
-        assert!(rt; replay_result == wanted, "{wanted:?}");
+        assert!(rt; replay_result == expected_result, "{expected_result:?}");
     }
     let replay_result = events_replayed(
         alloc,
@@ -280,9 +286,9 @@ fn events_checked(
     alloc: Global,
     members: Members,
     events: &[Event],
-    places: &[Option<u32>],
+    programmes: &[Option<u32>],
 ) -> Result<usize, ReplayFault> {
-    let (Ok(instance), Ok(sheet)) = (instance_of(alloc, members), sheet(alloc, places)) else {
+    let (Ok(instance), Ok(sheet)) = (instance_of(alloc, members), sheet(alloc, programmes)) else {
         return Err(ReplayFault::Memory);
     };
     match check(alloc, &instance, Capacity::Full, events, &sheet) {
@@ -302,27 +308,32 @@ const CHECKED_SHEETS: [(&[Option<u32>], Result<usize, ReplayFault>); 5] = [
 #[test]
 fn checks_sheets(rt: HostRuntime) {
     let events = nine_events();
-    for (places, wanted) in CHECKED_SHEETS {
-        let check_result = events_checked(rt.alloc(), TWO_BY_TWO, &events, places);
-        assert!(rt; check_result == wanted, "{wanted:?}");
+    for (programmes, expected_result) in CHECKED_SHEETS {
+        let check_result = events_checked(rt.alloc(), TWO_BY_TWO, &events, programmes);
+        assert!(rt; check_result == expected_result, "{expected_result:?}");
     }
-    let settled_places = [Some(1), Some(0), Some(0)];
+    let settled_programmes = [Some(1), Some(0), Some(0)];
     assert!(rt;
-        events_checked(rt.alloc(), TWO_PLACES, &nineteen_events(), &settled_places) == Ok(19)
+        events_checked(
+            rt.alloc(),
+            TWO_PLACES,
+            &nineteen_events(),
+            &settled_programmes
+        ) == Ok(19)
     );
 }
 
 // Whether these workers' events are counted as in `wanted_counts`, which has a number for each worker.
-fn counts_are(alloc: Global, who: &[u8], wanted_counts: &[u64]) -> bool {
+fn counts_are(alloc: Global, event_workers: &[u8], wanted_counts: &[u64]) -> bool {
     let Ok(workers) = u32::try_from(wanted_counts.len()) else {
         return false;
     };
-    for worker in who {
+    for worker in event_workers {
         if *worker as u32 >= workers {
             return false;
         }
     }
-    match counts(alloc, workers, who) {
+    match counts(alloc, workers, event_workers) {
         Ok(counts) => counts.as_slice() == wanted_counts,
         Err(_) => false,
     }
@@ -336,8 +347,8 @@ fn counts_events_of_workers(rt: HostRuntime) {
         (&[2, 2, 7], &[0, 0, 2, 0, 0, 0, 0, 1]),
         (&[], &[]),
     ];
-    for (who, wanted_counts) in cases {
-        assert!(rt; counts_are(rt.alloc(), who, wanted_counts));
+    for (event_workers, wanted_counts) in cases {
+        assert!(rt; counts_are(rt.alloc(), event_workers, wanted_counts));
     }
 }
 

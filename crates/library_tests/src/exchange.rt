@@ -235,16 +235,16 @@ fn first_wrong_event(run: &mut Run) -> Option<usize> {
 
 #[test]
 fn shows_what_is_left(rt: HostRuntime) {
-    let mut is_right = false;
+    let mut is_assignment_right = false;
     if let Ok(mut run) = new_run(rt.alloc(), TWO_PLACES, Capacity::Full) {
         assert!(rt; first_wrong_event(&mut run) == None);
         let assignment = run.assignment(rt.alloc());
-        is_right = assignment.is_ok_and(|assignment| has_places(
+        is_assignment_right = assignment.is_ok_and(|assignment| has_places(
             &assignment,
             &[Some(1), Some(0), Some(0)],
         ));
     }
-    assert!(rt; is_right);
+    assert!(rt; is_assignment_right);
 }
 
 // Enters some event that may follow, again and again, and returns how many events there are up to the close. The
@@ -267,11 +267,11 @@ fn turns_to_close(run: &mut Run) -> Option<u32> {
 
 #[test]
 fn always_finds_an_event(rt: HostRuntime) {
-    let mut turns = None;
+    let mut turn_count = None;
     if let Ok(mut run) = new_run(rt.alloc(), TWO_PLACES, Capacity::Each(1)) {
-        turns = turns_to_close(&mut run);
+        turn_count = turns_to_close(&mut run);
     }
-    assert!(rt; turns == Some(17) || turns == Some(19));
+    assert!(rt; turn_count == Some(17) || turn_count == Some(19));
 }
 
 // Every event between members of the instance.
@@ -304,8 +304,13 @@ fn agrees_on_one(run: &Run, cap: Capacity, earlier_events: &[Event], event: Even
 }
 
 // Whether the core and the slow definitions agree about each of these events after the earlier events.
-fn agrees_after(run: &Run, cap: Capacity, earlier_events: &[Event], events: &[Event]) -> bool {
-    for event in events {
+fn agrees_after(
+    run: &Run,
+    cap: Capacity,
+    earlier_events: &[Event],
+    tried_events: &[Event],
+) -> bool {
+    for event in tried_events {
         if !agrees_on_one(run, cap, earlier_events, *event) {
             return false;
         }
@@ -315,10 +320,10 @@ fn agrees_after(run: &Run, cap: Capacity, earlier_events: &[Event], events: &[Ev
 
 // Whether the core and the slow definitions agree about all events after each beginning of the list, from the empty
 // list to the whole list.
-fn agrees(run: &mut Run, cap: Capacity, events: &[Event], legal_events: &[Event]) -> bool {
-    for place in 0..=legal_events.len() {
-        let (earlier_events, later_events) = legal_events.split_at(place);
-        if !agrees_after(run, cap, earlier_events, events) {
+fn agrees(run: &mut Run, cap: Capacity, tried_events: &[Event], legal_events: &[Event]) -> bool {
+    for earlier_count in 0..=legal_events.len() {
+        let (earlier_events, later_events) = legal_events.split_at(earlier_count);
+        if !agrees_after(run, cap, earlier_events, tried_events) {
             return false;
         }
         if let Some(next_event) = later_events.first()
@@ -341,8 +346,8 @@ fn agrees_on(
     let Ok(mut run) = new_run(alloc, members, cap) else {
         return Ok(false);
     };
-    let events = possible_events(alloc, &run.inst)?;
-    Ok(agrees(&mut run, cap, events.as_slice(), legal_events))
+    let tried_events = possible_events(alloc, &run.inst)?;
+    Ok(agrees(&mut run, cap, tried_events.as_slice(), legal_events))
 }
 
 #[test]

@@ -19,7 +19,11 @@ use test_support::instances::{TWO_BY_TWO, TWO_PLACES, instance_of};
 
 // Ends in memory, each with room for `room` notes.
 #[tactic(auto, using(match_model::proofs::Prefixes::slice_get_push_parts))]
-fn lists<M: Drop>(alloc: Global, end_count: u32, room: u32) -> Result<Vec<ListPut<M>>, MailFault>
+fn memory_ends<M: Drop>(
+    alloc: Global,
+    end_count: u32,
+    room: u32,
+) -> Result<Vec<ListPut<M>>, MailFault>
     ensures { IfOk result (λ ends. (i : ℕ) (end : PutList M)
         → slice_get ends.items i ≡ Some end → end.puts ≡ []) }
 {
@@ -92,13 +96,14 @@ fn answers_each<J: ExchangeIdentity, P: PutEnd<OfferNote>, Q: PutEnd<AnswerNote>
     inst: &Instance,
     tally: &mut Tally<J>,
     events: &[Event],
-    wanted: Result<(), EntryRefused>,
+    ledger_answer: Result<(), EntryRefused>,
 ) -> bool
     requires { inst.now ≡ J.inst }
 {
     let mut answers_are_right = true;
     for event in events {
-        answers_are_right = enter(ledger, inst, tally, *event) == wanted && answers_are_right;
+        answers_are_right = enter(ledger, inst, tally, *event) == ledger_answer
+            && answers_are_right;
     }
     answers_are_right
 }
@@ -130,8 +135,10 @@ fn enters_all<J: ExchangeIdentity, P: PutEnd<OfferNote> + Drop, Q: PutEnd<Answer
         && ledger.close(inst, &mut tally) == closed_refusal
         && shows(&mut ledger, &mut tally, events)
         && ledger.core().is_closed();
-    let (journal, _core, _offer_ends, _answer_ends, who) = ledger.into_parts();
-    entries_are_right && journal.as_slice() == events && who.iter().all(|worker| *worker == 0)
+    let (journal, _core, _offer_ends, _answer_ends, event_workers) = ledger.into_parts();
+    entries_are_right
+        && journal.as_slice() == events
+        && event_workers.iter().all(|worker| *worker == 0)
 }
 
 // Whether the ledger enters no event, since the ends have no room.
@@ -232,8 +239,8 @@ fn does<J: ExchangeIdentity>(
     requires workers { workers ≡ J.workers }
     requires blank { (blank.name ≡ J.name) × (blank.parts ≡ J.parts) × (J.parts ≡ 8) }
 {
-    let offer_ends = lists::<OfferNote>(alloc, 2, room)?;
-    let answer_ends = lists::<AnswerNote>(alloc, 2, room)?;
+    let offer_ends = memory_ends::<OfferNote>(alloc, 2, room)?;
+    let answer_ends = memory_ends::<AnswerNote>(alloc, 2, room)?;
     let Ok((mut ledger, tallies)) = Ledger::<J, _, _>::open(
         alloc,
         blank,
@@ -346,15 +353,15 @@ fn not_opened<J: ExchangeIdentity>(
     inst: &Instance,
     cap: Capacity,
     workers: u32,
-    residents: u32,
+    resident_ends: u32,
 ) -> Result<Option<(LedgerFault, usize, usize)>, MailFault>
     requires instance { inst.now ≡ J.inst }
     requires capacity { cap ≡ J.cap }
     requires workers { workers ≡ J.workers }
     requires blank { (blank.name ≡ J.name) × (blank.parts ≡ J.parts) × (J.parts ≡ 8) }
 {
-    let offer_ends = lists::<OfferNote>(alloc, residents, 4)?;
-    let answer_ends = lists::<AnswerNote>(alloc, 2, 4)?;
+    let offer_ends = memory_ends::<OfferNote>(alloc, resident_ends, 4)?;
+    let answer_ends = memory_ends::<AnswerNote>(alloc, 2, 4)?;
     match Ledger::<J, _, _>::open(alloc, blank, inst, cap, workers, offer_ends, answer_ends) {
         Ok(_) => Ok(None),
         Err(
@@ -371,7 +378,7 @@ fn not_opened<J: ExchangeIdentity>(
 fn refused_opening(rt: HostRuntime) -> Result<(), Fail> {
     let alloc = rt.alloc();
     let inst = instance_of(alloc, TWO_BY_TWO)?;
-    for (residents, cap, workers, fault) in [
+    for (resident_ends, cap, workers, fault) in [
         (1, Capacity::Full, 1, LedgerFault::WrongEnds),
         (1, Capacity::Each(0), 0, LedgerFault::WrongEnds),
         (2, Capacity::Each(0), 1, LedgerFault::BadCapacity),
@@ -385,10 +392,10 @@ fn refused_opening(rt: HostRuntime) -> Result<(), Fail> {
             &inst,
             cap,
             workers,
-            residents,
+            resident_ends,
         );
         assert!(rt;
-            opening_refusal == Ok(Some((fault, residents as usize, 2))),
+            opening_refusal == Ok(Some((fault, resident_ends as usize, 2))),
             "{cap:?}, {workers} workers"
         );
     }

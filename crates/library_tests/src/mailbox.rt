@@ -65,9 +65,9 @@ fn two_places_in_memory(rt: HostRuntime) -> Result<(), Fail> {
 #[test]
 fn capacities(rt: HostRuntime) {
     // a desk can be sent at most twice as many messages as there are acceptable pairs
-    for (capacity, wanted) in [(0, Some(MailFault::NoCapacity)), (1, None), (400_000, None)] {
+    for (capacity, right_fault) in [(0, Some(MailFault::NoCapacity)), (1, None), (400_000, None)] {
         let fault = mailbox::<u32, HostRuntime>(rt.alloc(), rt, capacity).err();
-        assert!(rt; fault == wanted, "{capacity}");
+        assert!(rt; fault == right_fault, "{capacity}");
     }
 }
 
@@ -121,9 +121,9 @@ impl Model for Note {
 
     ghost Value = { ℕ };
 
-    ghost view = { λ n. n.number };
+    ghost view = { λ note. note.number };
 
-    ghost inverse = { λ n. record { number = n } };
+    ghost inverse = { λ value. record { number = value } };
 }
 
 fn post<P: PutEnd<Note>>(put: &mut P, number: u32) -> bool

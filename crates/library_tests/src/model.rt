@@ -19,8 +19,8 @@ fn two_member_builder(alloc: Global) -> Result<InstanceBuilder, ModelFault> {
 #[test]
 fn heeds_the_quota(rt: HostRuntime) {
     let mut builder = InstanceBuilder::new(rt.alloc());
-    for (quota, wanted) in [(10_001, Err(ModelFault::QuotaTooLarge)), (10_000, Ok(A))] {
-        assert!(rt; builder.add_programme(quota) == wanted, "{quota}");
+    for (quota, expected_result) in [(10_001, Err(ModelFault::QuotaTooLarge)), (10_000, Ok(A))] {
+        assert!(rt; builder.add_programme(quota) == expected_result, "{quota}");
     }
 }
 
@@ -32,16 +32,16 @@ fn refuses_in_order(rt: HostRuntime) -> Result<(), Fail> {
         (&[X], Ok(())),
         (&[X], Err(ModelFault::ListGivenTwice)),
     ];
-    for (list, wanted) in programme_lists {
-        assert!(rt; builder.programme_list(A, list) == wanted);
+    for (list, expected_result) in programme_lists {
+        assert!(rt; builder.programme_list(A, list) == expected_result);
     }
     let resident_lists: [(&[ProgrammeNo], Result<(), ModelFault>); 3] = [
         (&[B], Err(ModelFault::NoSuchMember)),
         (&[A, A], Err(ModelFault::ListedTwice)),
         (&[A], Ok(())),
     ];
-    for (list, wanted) in resident_lists {
-        assert!(rt; builder.resident_list(X, list) == wanted);
+    for (list, expected_result) in resident_lists {
+        assert!(rt; builder.resident_list(X, list) == expected_result);
     }
     assert!(rt; builder.resident_list(Y, &[]) == Err(ModelFault::NoSuchMember));
     assert!(rt; has_pairs(builder, 1));
@@ -78,7 +78,7 @@ fn mutual_parts(alloc: Global) -> Result<Instance, ModelFault> {
     builder.finish().map_err(|refused| refused.fault)
 }
 
-// Whether the programme and the resident stand at these places of each other's lists.
+// Whether the programme and the resident stand at these positions of each other's lists.
 fn are_ranked(
     instance: &Instance,
     programme: ProgrammeNo,
@@ -113,12 +113,12 @@ fn keeps_the_mutual_parts(rt: HostRuntime) -> Result<(), Fail> {
     Ok(())
 }
 
-// The resident whom a programme lists at this place, with the programme's place on that resident's list.
-fn offer(instance: &Instance, programme: ProgrammeNo, place: u32) -> Option<(u32, u32)> {
+// The resident whom a programme lists at this position, with the programme's position on that resident's list.
+fn offer(instance: &Instance, programme: ProgrammeNo, list_position: u32) -> Option<(u32, u32)> {
     if programme.0 >= instance.programmes() {
         return None;
     }
-    match instance.offer_at(programme, place) {
+    match instance.offer_at(programme, list_position) {
         Some((resident, rank)) => Some((resident.0, rank)),
         None => None,
     }
@@ -132,13 +132,13 @@ fn tells_an_offer_with_its_rank(rt: HostRuntime) -> Result<(), Fail> {
     builder.resident_list(X, &[B, A])?;
     builder.resident_list(Z, &[A])?;
     let instance = builder.finish().map_err(|refused| refused.fault)?;
-    for (programme, place, resident_and_rank) in [
+    for (programme, list_position, resident_and_rank) in [
         (A, 0, Some((Z.0, 0))),
         (A, 1, Some((X.0, 1))),
         (A, 2, None),
         (B, 0, Some((X.0, 0))),
     ] {
-        assert!(rt; offer(&instance, programme, place) == resident_and_rank);
+        assert!(rt; offer(&instance, programme, list_position) == resident_and_rank);
     }
     for guess in 0..3 {
         assert!(rt; X.0 < instance.residents() && instance.rank_by_guess(X, A, guess) == Some(1));
@@ -152,9 +152,9 @@ fn refuses_a_withdrawal_in_order(rt: HostRuntime) -> Result<(), Fail> {
     assert!(rt; empty_builder.withdraw_resident(X) == Err(ModelFault::NoSuchMember));
     assert!(rt; empty_builder.withdraw_programme(A) == Err(ModelFault::NoSuchMember));
     let mut builder = two_member_builder(rt.alloc())?;
-    for wanted in [Ok(()), Err(ModelFault::WithdrawnTwice)] {
-        assert!(rt; builder.withdraw_programme(A) == wanted);
-        assert!(rt; builder.withdraw_resident(X) == wanted);
+    for expected_result in [Ok(()), Err(ModelFault::WithdrawnTwice)] {
+        assert!(rt; builder.withdraw_programme(A) == expected_result);
+        assert!(rt; builder.withdraw_resident(X) == expected_result);
     }
     assert!(rt; builder.withdraw_programme(B) == Err(ModelFault::NoSuchMember));
     assert!(rt; has_pairs(builder, 0));
@@ -165,11 +165,11 @@ fn refuses_a_withdrawal_in_order(rt: HostRuntime) -> Result<(), Fail> {
 fn reads_the_list_of_whoever_is_withdrawn(rt: HostRuntime) -> Result<(), Fail> {
     let mut builder = two_member_builder(rt.alloc())?;
     builder.withdraw_programme(A)?;
-    for (list, wanted) in [
+    for (list, expected_result) in [
         ([X, Y], Err(ModelFault::NoSuchMember)),
         ([X, X], Err(ModelFault::ListedTwice)),
     ] {
-        assert!(rt; builder.programme_list(A, &list) == wanted);
+        assert!(rt; builder.programme_list(A, &list) == expected_result);
     }
     assert!(rt; builder.programme_list(A, &[X]) == Ok(()));
     assert!(rt; builder.programme_list(A, &[X]) == Err(ModelFault::ListGivenTwice));
@@ -334,7 +334,7 @@ fn national_limits_take_more(rt: HostRuntime) -> Result<(), Fail> {
 
 #[test]
 fn national_faults_name_their_numbers(rt: HostRuntime) {
-    for (fault, text) in [
+    for (fault, fault_text) in [
         (ModelFault::TooManyProgrammes, "more than 10000 programmes"),
         (ModelFault::TooManyResidents, "more than 100000 residents"),
         (
@@ -343,8 +343,8 @@ fn national_faults_name_their_numbers(rt: HostRuntime) {
         ),
     ] {
         let limit_fault = fault.within(Limits::National);
-        let printed = format!(in rt.alloc(); "{limit_fault}").expect(&rt, "a text");
-        assert!(rt; printed.as_str() == text, "{printed}");
+        let printed_fault = format!(in rt.alloc(); "{limit_fault}").expect(&rt, "a text");
+        assert!(rt; printed_fault.as_str() == fault_text, "{printed_fault}");
     }
 }
 
@@ -364,8 +364,8 @@ fn prints_its_faults(rt: HostRuntime) {
         (ModelFault::Memory, "out of memory"),
         (ModelFault::WithdrawnTwice, "a member is withdrawn twice"),
     ];
-    for (fault, text) in faults {
-        let printed = format!(in rt.alloc(); "{fault}").expect(&rt, "a text");
-        assert!(rt; printed.as_str() == text, "{printed}");
+    for (fault, fault_text) in faults {
+        let printed_fault = format!(in rt.alloc(); "{fault}").expect(&rt, "a text");
+        assert!(rt; printed_fault.as_str() == fault_text, "{printed_fault}");
     }
 }

@@ -1,5 +1,5 @@
 //! Runs by one worker, and the order in which this worker visits the desks.
-use crate::runs::ran;
+use crate::runs::run_of;
 use exchange_core::{Capacity, Event};
 use match_model::{ProgrammeNo, ResidentNo};
 use match_pool::OpenGate;
@@ -41,7 +41,7 @@ pub(crate) fn is_by_one_worker(journal: &[Event]) -> bool {
 #[test]
 fn one_worker_is_repeated_to_the_event(rt: HostRuntime) -> Result<(), Fail> {
     for _ in 0..10 {
-        let outcome = ran(rt, rt.alloc(), TWO_PLACES, Capacity::Full, 1, &OpenGate)?;
+        let outcome = run_of(rt, rt.alloc(), TWO_PLACES, Capacity::Full, 1, &OpenGate)?;
         assert!(rt; is_by_one_worker(outcome.journal.as_slice()));
     }
     Ok(())
@@ -52,7 +52,7 @@ const TWO_PAIRS: Members = (&[(1, &[0]), (1, &[1])], &[&[0], &[1]]);
 
 #[test]
 fn what_a_visit_woke_comes_before_any_programme(rt: HostRuntime) -> Result<(), Fail> {
-    let outcome = ran(rt, rt.alloc(), TWO_PAIRS, Capacity::Full, 1, &OpenGate)?;
+    let outcome = run_of(rt, rt.alloc(), TWO_PAIRS, Capacity::Full, 1, &OpenGate)?;
     let wanted_events = [
         offer(A, X),
         take(X, A),
@@ -139,7 +139,7 @@ fn is_followed(journal: &[Event], event_before: &Event, event_after: &Event) -> 
 #[test]
 fn a_called_programme_offers_first_and_hears_then(rt: HostRuntime) -> Result<(), Fail> {
     for (members, offer_event, hear_event) in CALLED_MARKETS {
-        let outcome = ran(rt, rt.alloc(), members, Capacity::Each(1), 1, &OpenGate)?;
+        let outcome = run_of(rt, rt.alloc(), members, Capacity::Each(1), 1, &OpenGate)?;
         assert!(rt;
             is_followed(&outcome.journal, &offer_event, &hear_event),
             "{offer_event:?}, {hear_event:?}"
@@ -204,7 +204,7 @@ const REFUSED_AGAIN_MARKETS: [(Members, Event, Event); 2] = [
 #[test]
 fn a_called_programme_that_is_refused_hears(rt: HostRuntime) -> Result<(), Fail> {
     for (members, event_before, hear_event) in REFUSED_AGAIN_MARKETS {
-        let outcome = ran(rt, rt.alloc(), members, Capacity::Each(1), 1, &OpenGate)?;
+        let outcome = run_of(rt, rt.alloc(), members, Capacity::Each(1), 1, &OpenGate)?;
         assert!(rt;
             is_followed(&outcome.journal, &event_before, &hear_event),
             "{event_before:?}, {hear_event:?}"

@@ -16,12 +16,12 @@ use test_support::instances::{Members, TWO_BY_TWO, TWO_PLACES, has_places, insta
 fn slipping_outcome<G: Gate + Sync, R: Threads + Wait + Sync + Send + Copy>(
     rt: R,
     alloc: Global,
-    members_and_places: (Members, &[Option<u32>]),
+    members_and_programmes: (Members, &[Option<u32>]),
     run_setup: (Capacity, usize),
     gate: &G,
     slip: Slip,
 ) -> Result<bool, RunFault> {
-    let (members, places) = members_and_places;
+    let (members, programmes) = members_and_programmes;
     let (cap, workers) = run_setup;
     let Ok(inst) = instance_of(alloc, members) else {
         return Err(RunFault::Memory);
@@ -31,7 +31,7 @@ fn slipping_outcome<G: Gate + Sync, R: Threads + Wait + Sync + Send + Copy>(
         slips: [slip, slip],
     };
     let finished_run = run_over(rt, alloc, &mailboxes, &inst, cap, workers, gate)?;
-    Ok(finished_run.ending == Ending::Closed && has_places(&finished_run.assignment, places))
+    Ok(finished_run.ending == Ending::Closed && has_places(&finished_run.assignment, programmes))
 }
 
 const CAPACITIES: [Capacity; 3] = [Capacity::Full, Capacity::Each(1), Capacity::Each(2)];

@@ -1,6 +1,6 @@
 //! What a gate promises, tested in runs: when `pass` is called for a receipt, when `entered` is called, and how a run
 //! stops.
-use crate::runs::{Outcome, ran, ran_on};
+use crate::runs::{Outcome, run_of, run_on};
 use exchange_core::{Capacity, Desk, Event};
 use match_model::{Instance, ModelFault, ProgrammeNo};
 use match_pool::Ending;
@@ -42,13 +42,14 @@ fn receipts_of(journal: &[Event]) -> u64 {
 // Whether each worker entered as many events as the gate counted, and the journal has all of them and no others.
 fn agrees_with_counts(outcome: &Outcome, gate_counts: &[u64]) -> bool {
     let mut entered_sum = 0_u64;
-    for (entered, gate_count) in outcome.entered.iter().zip(gate_counts) {
-        if entered != gate_count {
+    for (entry_count, gate_count) in outcome.entry_counts.iter().zip(gate_counts) {
+        if entry_count != gate_count {
             return false;
         }
         entered_sum = entered_sum.saturating_add(*gate_count);
     }
-    outcome.journal.len() as u64 == entered_sum && outcome.who.len() == outcome.journal.len()
+    outcome.journal.len() as u64 == entered_sum
+        && outcome.event_workers.len() == outcome.journal.len()
 }
 
 // Whether a run ended as it should whose gate stops it from the call of `pass` with this number on.
@@ -80,7 +81,7 @@ fn stopped_from<R: Threads + Wait + Sync + Send + Copy>(
 ) -> Option<Ending> {
     let (cap, workers) = run_setup;
     let gate = StopsFrom::new(first_pass);
-    let Ok(outcome) = ran_on(rt, alloc, inst, cap, workers, &gate) else {
+    let Ok(outcome) = run_on(rt, alloc, inst, cap, workers, &gate) else {
         return None;
     };
     if is_stopped_from(&outcome, &gate, first_pass, workers) {
@@ -155,7 +156,7 @@ fn is_stopped_by<R: Threads + Wait + Sync + Send + Copy>(
     worker: Option<usize>,
 ) -> bool {
     let gate = StopsBy::new(rt, worker);
-    let outcome = ran_on(rt, alloc, inst, Capacity::Full, workers, &gate);
+    let outcome = run_on(rt, alloc, inst, Capacity::Full, workers, &gate);
     outcome.is_ok_and(|outcome| outcome.ending == Ending::Stopped)
 }
 
@@ -188,7 +189,7 @@ fn a_stop_wakes_who_rests(rt: HostRuntime) -> Result<(), Fail> {
 // The index in the journal of the event that a worker entered after it had entered `earlier_entries` events.
 fn journal_index(outcome: &Outcome, worker: usize, earlier_entries: u64) -> Option<usize> {
     let mut entered_count = 0_u64;
-    for (index, by_worker) in outcome.who.iter().enumerate() {
+    for (index, by_worker) in outcome.event_workers.iter().enumerate() {
         if usize::from(*by_worker) == worker {
             if entered_count == earlier_entries {
                 return Some(index);
@@ -202,17 +203,17 @@ fn journal_index(outcome: &Outcome, worker: usize, earlier_entries: u64) -> Opti
 // Whether a receipt that was kept waiting was entered after all events that were entered meanwhile, none of which
 // belongs to its desk.
 fn is_entered_after(outcome: &Outcome, hold: &Hold, workers: usize) -> bool {
-    let Some(held_index) = journal_index(outcome, hold.worker, hold.own) else {
+    let Some(held_index) = journal_index(outcome, hold.worker, hold.own_entries) else {
         return false;
     };
     for (index, event) in outcome.journal.iter().enumerate() {
-        let is_meanwhile = index >= (hold.from as usize).saturating_add(workers)
+        let is_meanwhile = index >= (hold.entries_before as usize).saturating_add(workers)
             && index < held_index;
         if is_meanwhile && (desk_of(event) == Some(hold.desk) || *event == Event::Close) {
             return false;
         }
     }
-    held_index as u64 >= hold.to
+    held_index as u64 >= hold.entries_after
         && outcome.journal.get(held_index).is_some_and(|event| {
             desk_of(event) == Some(hold.desk) && receipts_of(&[*event]) == 1
         })
@@ -237,7 +238,7 @@ fn is_held<R: Threads + Wait + Sync + Send + Copy>(
 ) -> bool {
     let (cap, workers) = run_setup;
     let gate = Stalls::new(rt, held_call);
-    let Ok(outcome) = ran_on(rt, alloc, inst, cap, workers, &gate) else {
+    let Ok(outcome) = run_on(rt, alloc, inst, cap, workers, &gate) else {
         return false;
     };
     let gate_counts = [0, 1, 2, 3, 4, 5, 6, 7].map(|worker| gate.count(worker));
@@ -276,7 +277,7 @@ fn goes_on<R: Threads + Wait + Sync + Send + Copy>(
 ) -> bool {
     let (cap, workers) = run_setup;
     let gate = HoldsEntered::new(event_number);
-    let Ok(outcome) = ran_on(rt, alloc, inst, cap, workers, &gate) else {
+    let Ok(outcome) = run_on(rt, alloc, inst, cap, workers, &gate) else {
         return false;
     };
     let gate_counts = [0, 1, 2, 3, 4, 5, 6, 7].map(|worker| gate.count(worker));
@@ -315,7 +316,7 @@ fn goes_on_beside<R: Threads + Wait + Sync + Send + Copy>(
     cap: Capacity,
 ) -> bool {
     let gate = HoldsVisit::new();
-    let outcome = ran(rt, alloc, ONE_FOR_TEN, cap, 2, &gate);
+    let outcome = run_of(rt, alloc, ONE_FOR_TEN, cap, 2, &gate);
     gate.has_held() && outcome.is_ok_and(|outcome| outcome.ending == Ending::Closed)
 }
 
@@ -336,7 +337,7 @@ const RIVALS: Members = (&[(1, &[0]), (1, &[0, 1])], &[&[0, 1], &[1]]);
 // The listed desk is that of the rejected programme, which hears of the rejection and offers again.
 fn is_woken<R: Threads + Wait + Sync + Send + Copy>(rt: R, alloc: Global, cap: Capacity) -> bool {
     let gate = Rested::new(rt, Desk::Programme(ProgrammeNo(1)));
-    let outcome = ran(rt, alloc, RIVALS, cap, 2, &gate);
+    let outcome = run_of(rt, alloc, RIVALS, cap, 2, &gate);
     gate.has_held() && outcome.is_ok_and(|outcome| outcome.ending == Ending::Closed)
 }
 

@@ -22,7 +22,7 @@ pub(crate) struct Latch<R: Wait + Copy> {
     is_of_puts: bool,
     clock: AtomicU64,
     is_armed: AtomicBool,
-    has_begun: AtomicBool,
+    has_wait_begun: AtomicBool,
     is_open: AtomicBool,
 }
 
@@ -34,7 +34,7 @@ impl<R: Wait + Copy> Latch<R> {
             is_of_puts,
             clock: AtomicU64::new(0),
             is_armed: AtomicBool::new(false),
-            has_begun: AtomicBool::new(false),
+            has_wait_begun: AtomicBool::new(false),
             is_open: AtomicBool::new(false),
         }
     }
@@ -62,12 +62,12 @@ impl<R: Wait + Copy> Latch<R> {
 
     /// Waits until a put or a take is kept waiting.
     pub(crate) fn wait_until_begun(&self) {
-        self.wait_for(&self.has_begun);
+        self.wait_for(&self.has_wait_begun);
     }
 
     /// Whether a put or a take was kept waiting.
-    pub(crate) fn has_begun(&self) -> bool {
-        self.has_begun.load(Ordering::SeqCst)
+    pub(crate) fn has_wait_begun(&self) -> bool {
+        self.has_wait_begun.load(Ordering::SeqCst)
     }
 
     /// Opens the latch, so that a waiting take goes on.
@@ -79,14 +79,14 @@ impl<R: Wait + Copy> Latch<R> {
     // lock meanwhile.
     fn holds_put(&self) {
         let is_armed = self.is_of_puts && self.is_armed.load(Ordering::SeqCst);
-        if is_armed && !self.has_begun.swap(true, Ordering::SeqCst) {
+        if is_armed && !self.has_wait_begun.swap(true, Ordering::SeqCst) {
             self.sleep(200);
         }
     }
 
     // Keeps a take waiting until the latch is opened.
     fn holds_take(&self) {
-        self.has_begun.store(true, Ordering::SeqCst);
+        self.has_wait_begun.store(true, Ordering::SeqCst);
         self.wait_for(&self.is_open);
     }
 }
@@ -103,7 +103,7 @@ impl<'a, M: Copy, R: Wait + Copy> Model for LatchedPut<'a, M, R> {
 
     ghost Value = { PutSide M };
 
-    ghost view = { λ e. e.end };
+    ghost view = { λ put. put.end };
 }
 
 impl<'a, M: Copy, R: Wait + Copy> PutEnd<M> for LatchedPut<'a, M, R> {
@@ -113,9 +113,9 @@ impl<'a, M: Copy, R: Wait + Copy> PutEnd<M> for LatchedPut<'a, M, R> {
 
     ghost may_go = { λ _. Unit {0} };
 
-    fn put(&mut self, m: M) -> PutReply<M> {
+    fn put(&mut self, message: M) -> PutReply<M> {
         self.latch.holds_put();
-        self.end.put(m)
+        self.end.put(message)
     }
 }
 
@@ -133,7 +133,7 @@ impl<'a, M: Copy, R: Wait + Copy> Model for LatchedTake<'a, M, R> {
 
     ghost Value = { TakeSide M };
 
-    ghost view = { λ e. e.end };
+    ghost view = { λ take. take.end };
 }
 
 impl<'a, M: Copy, R: Wait + Copy> TakeEnd<M> for LatchedTake<'a, M, R> {

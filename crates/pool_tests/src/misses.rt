@@ -3,7 +3,7 @@
 ghost use Rattle.std.specs.Prelude.{true, false};
 
 use crate::alone::is_by_one_worker;
-use crate::runs::ran;
+use crate::runs::run_of;
 use crate::slips::{PutSlip, Slip, Slipping, TakeSlip};
 use exchange_core::{Capacity, Desk, Event, OfferNote};
 use match_model::ProgrammeNo;
@@ -75,7 +75,7 @@ struct LateDesk<R: Wait + Copy> {
     clock: AtomicU64,
     late_desk: Desk,
     next_desk: Desk,
-    has_begun: AtomicBool,
+    has_wait_begun: AtomicBool,
 }
 
 impl<R: Wait + Copy> LateDesk<R> {
@@ -92,11 +92,11 @@ impl<R: Wait + Copy + Sync> Gate for LateDesk<R> {
 
     fn pass(&self, _worker: usize, desk: Desk) -> Go {
         if desk == self.late_desk {
-            self.has_begun.store(true, Ordering::SeqCst);
+            self.has_wait_begun.store(true, Ordering::SeqCst);
             self.sleep(400_000);
         } else if desk == self.next_desk {
             for _ in 0..5_000 {
-                if self.has_begun.load(Ordering::SeqCst) {
+                if self.has_wait_begun.load(Ordering::SeqCst) {
                     break;
                 }
                 self.sleep(1_000);
@@ -129,7 +129,7 @@ fn first_fault<R: Threads + Wait + Sync + Send + Copy>(rt: R, alloc: Global) -> 
         clock: AtomicU64::new(0),
         late_desk: Desk::Resident(Y),
         next_desk: Desk::Resident(X),
-        has_begun: AtomicBool::new(false),
+        has_wait_begun: AtomicBool::new(false),
     };
     run_over(rt, alloc, &mailboxes, &inst, Capacity::Full, 2, &gate).err()
 }
@@ -147,8 +147,8 @@ fn the_first_trouble_is_told(rt: HostRuntime) {
 struct SlowEntry<R: Wait + Copy> {
     rt: R,
     clock: AtomicU64,
-    has_begun: AtomicBool,
-    passed_calls: AtomicU64,
+    has_first_entered: AtomicBool,
+    pass_call_count: AtomicU64,
     has_seen_calls: AtomicBool,
 }
 
@@ -160,16 +160,16 @@ impl<R: Wait + Copy + Sync> Gate for SlowEntry<R> {
     const ENTERED_MAY_HOLD: bool = false;
 
     fn pass(&self, _worker: usize, _desk: Desk) -> Go {
-        self.passed_calls.fetch_add(1, Ordering::SeqCst);
+        self.pass_call_count.fetch_add(1, Ordering::SeqCst);
         Go::On
     }
 
     fn entered(&self, _worker: usize) {
-        if self.has_begun.swap(true, Ordering::SeqCst) {
+        if self.has_first_entered.swap(true, Ordering::SeqCst) {
             return;
         }
         for _ in 0..2_000 {
-            if self.passed_calls.load(Ordering::SeqCst) >= 3 {
+            if self.pass_call_count.load(Ordering::SeqCst) >= 3 {
                 self.has_seen_calls.store(true, Ordering::SeqCst);
                 return;
             }
@@ -187,11 +187,11 @@ fn a_search_finds_what_no_list_has(rt: HostRuntime) {
     let gate = SlowEntry {
         rt,
         clock: AtomicU64::new(0),
-        has_begun: AtomicBool::new(false),
-        passed_calls: AtomicU64::new(0),
+        has_first_entered: AtomicBool::new(false),
+        pass_call_count: AtomicU64::new(0),
         has_seen_calls: AtomicBool::new(false),
     };
-    let outcome = ran(rt, rt.alloc(), TWO_PAIRS, Capacity::Full, 2, &gate);
+    let outcome = run_of(rt, rt.alloc(), TWO_PAIRS, Capacity::Full, 2, &gate);
     let is_closed = outcome.is_ok_and(|outcome| outcome.ending == Ending::Closed);
     assert!(rt; is_closed && gate.has_seen_calls.load(Ordering::SeqCst));
 }

@@ -3,7 +3,7 @@
 ghost use Rattle.std.specs.Prelude.{true, false};
 
 use crate::latched::{Latch, Latched};
-use crate::runs::ran;
+use crate::runs::run_of;
 use exchange_core::{Capacity, Desk};
 use match_model::{Instance, InstanceBuilder, ModelFault, ProgrammeNo, ResidentNo};
 use match_pool::{Ending, Gate, Go, RunFault, run_over};
@@ -153,7 +153,7 @@ fn is_heeded_at_once<R: Threads + Wait + Sync + Send + Copy>(
     };
     let ending = run_ending(rt, alloc, &mailboxes, inst, &gate);
     ending == Ok(Ending::Stopped)
-        && gate.latch.has_begun()
+        && gate.latch.has_wait_begun()
         && gate.entered_after_stop.load(Ordering::SeqCst) == 2
 }
 
@@ -252,7 +252,7 @@ fn a_close_is_told_once(rt: HostRuntime) -> Result<(), Fail> {
         hear_count: AtomicU64::new(0),
         entered_count: AtomicU64::new(0),
     };
-    let outcome = ran(rt, rt.alloc(), TWO_PAIRS, Capacity::Full, 2, &gate)?;
+    let outcome = run_of(rt, rt.alloc(), TWO_PAIRS, Capacity::Full, 2, &gate)?;
     assert!(rt; outcome.ending == Ending::Closed && outcome.journal.len() == 9);
     assert!(rt; gate.entered_count.load(Ordering::SeqCst) == 9);
     Ok(())
@@ -360,7 +360,7 @@ fn what_a_visit_woke_is_listed_before_a_hear_passes(rt: HostRuntime) -> Result<(
         has_held: AtomicBool::new(false),
         has_seen_answers: AtomicBool::new(false),
     };
-    let outcome = ran(rt, rt.alloc(), TEN_AND_ONE, Capacity::Full, 2, &gate)?;
+    let outcome = run_of(rt, rt.alloc(), TEN_AND_ONE, Capacity::Full, 2, &gate)?;
     assert!(rt; outcome.ending == Ending::Closed);
     assert!(rt; gate.has_seen_answers.load(Ordering::SeqCst));
     Ok(())

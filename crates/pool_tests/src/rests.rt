@@ -2,7 +2,7 @@
 //! workers' desks. How much this is follows from the market.
 ghost use Rattle.std.specs.Prelude.{true, false};
 
-use crate::runs::{ran, ran_on};
+use crate::runs::{run_of, run_on};
 use exchange_core::{Capacity, Desk};
 use match_model::{Instance, InstanceBuilder, ModelFault, ProgrammeNo, ResidentNo};
 use match_pool::{Ending, Gate, Go};
@@ -30,11 +30,11 @@ const ALL_FOR_ONE: Members = (
 // The worker at the resident's desk waits at its first take until all four offers are entered and the other workers
 // sleep. It then answers this offer, and waits at its second take until the answer is heard.
 const AT_THE_SECOND_TAKE: Holds = Holds {
-    begun: 0,
-    offers: 0,
-    first: (FIRST_RESIDENT, 4),
-    other: None,
-    next: (1, Until::Entered(7)),
+    events_to_begin: 0,
+    events_to_take: 0,
+    first_desk_call: (FIRST_RESIDENT, 4),
+    other_desk_call: None,
+    next_takes: (1, Until::Entered(7)),
 };
 
 // A pair, and four programmes that all rank a second resident.
@@ -46,11 +46,11 @@ const PROGRAMMES_WAIT: Members = (
 // The first take of the second resident waits until the three other programmes wait for room in its mailbox. The take
 // of the first resident waits until its pair's offer and all events of the others are entered, at least sixteen.
 const BESIDE_PROGRAMMES: Holds = Holds {
-    begun: 0,
-    offers: 0,
-    first: (Desk::Resident(Y), 2),
-    other: Some((FIRST_RESIDENT, 17)),
-    next: NO_LATER_WAITS,
+    events_to_begin: 0,
+    events_to_take: 0,
+    first_desk_call: (Desk::Resident(Y), 2),
+    other_desk_call: Some((FIRST_RESIDENT, 17)),
+    next_takes: NO_LATER_WAITS,
 };
 
 // A pair, and a programme with a place for each of its four residents.
@@ -62,11 +62,11 @@ const RESIDENTS_WAIT: Members = (
 // The take of the first resident waits until its pair's offer and all sixteen events of the others are entered. Three
 // of the other residents wait for room in their programme's mailbox.
 const BESIDE_RESIDENTS: Holds = Holds {
-    begun: 0,
-    offers: 5,
-    first: (FIRST_RESIDENT, 17),
-    other: None,
-    next: NO_LATER_WAITS,
+    events_to_begin: 0,
+    events_to_take: 5,
+    first_desk_call: (FIRST_RESIDENT, 17),
+    other_desk_call: None,
+    next_takes: NO_LATER_WAITS,
 };
 
 const AT_TAKES: [(Members, Capacity, Holds, &[usize]); 3] = [
@@ -84,7 +84,7 @@ fn leaves_no_work<R: Threads + Wait + Sync + Send + Copy>(
 ) -> bool {
     let (members, cap, workers) = run_setup;
     let gate = UntilDone::new(rt, holds);
-    let outcome = ran(rt, alloc, members, cap, workers, &gate);
+    let outcome = run_of(rt, alloc, members, cap, workers, &gate);
     gate.has_held_all() && outcome.is_ok_and(|outcome| outcome.ending == Ending::Closed)
 }
 
@@ -214,7 +214,7 @@ fn no_work_is_left_while_a_worker_is_told_of_an_entry(rt: HostRuntime) -> Result
     for workers in [2, 3] {
         for held_event in 1..=4 * PAIRS {
             let gate = HoldsAfterEntry::new(rt, held_event);
-            let outcome = ran_on(rt, rt.alloc(), &inst, Capacity::Full, workers, &gate)?;
+            let outcome = run_on(rt, rt.alloc(), &inst, Capacity::Full, workers, &gate)?;
             assert!(rt;
                 outcome.ending == Ending::Closed && gate.all_else_entered.load(Ordering::SeqCst),
                 "event {held_event}, {workers} workers"
@@ -242,11 +242,11 @@ fn each_that_sleeps_is_woken_for_what_one_visit_gave(rt: HostRuntime) {
     for (workers, waiting_workers) in [(2, 1), (3, 2)] {
         for _ in 0..TRIES {
             let holds = Holds {
-                begun: 2,
-                offers: 6,
-                first: (Desk::Programme(A), 21),
-                other: None,
-                next: (waiting_workers, Until::Takes(9)),
+                events_to_begin: 2,
+                events_to_take: 6,
+                first_desk_call: (Desk::Programme(A), 21),
+                other_desk_call: None,
+                next_takes: (waiting_workers, Until::Takes(9)),
             };
             let run_setup = (THREE_LOST, Capacity::Full, workers);
             assert!(rt;
@@ -262,15 +262,15 @@ fn each_that_sleeps_is_woken_for_what_one_visit_gave(rt: HostRuntime) {
 fn made_crowd(alloc: Global) -> Result<Instance, ModelFault> {
     let mut builder = InstanceBuilder::new(alloc);
     let programme = builder.add_programme(70)?;
-    let mut list = Vec::new(alloc);
+    let mut ranking = Vec::new(alloc);
     for number in 0..70 {
         let resident = builder.add_resident()?;
         builder.resident_list(resident, &[programme])?;
-        let Ok(()) = list.push(ResidentNo(69 - number)) else {
+        let Ok(()) = ranking.push(ResidentNo(69 - number)) else {
             return Err(ModelFault::Memory);
         };
     }
-    builder.programme_list(programme, list.as_slice())?;
+    builder.programme_list(programme, ranking.as_slice())?;
     builder.finish().map_err(|refused| refused.fault)
 }
 
@@ -280,14 +280,14 @@ fn made_crowd(alloc: Global) -> Result<Instance, ModelFault> {
 fn a_visit_that_wakes_many_lists_them_all(rt: HostRuntime) -> Result<(), Fail> {
     let inst = made_crowd(rt.alloc())?;
     let holds = Holds {
-        begun: 0,
-        offers: 70,
-        first: (FIRST_RESIDENT, 277),
-        other: None,
-        next: NO_LATER_WAITS,
+        events_to_begin: 0,
+        events_to_take: 70,
+        first_desk_call: (FIRST_RESIDENT, 277),
+        other_desk_call: None,
+        next_takes: NO_LATER_WAITS,
     };
     let gate = UntilDone::new(rt, holds);
-    let outcome = ran_on(rt, rt.alloc(), &inst, Capacity::Full, 2, &gate)?;
+    let outcome = run_on(rt, rt.alloc(), &inst, Capacity::Full, 2, &gate)?;
     assert!(rt; outcome.ending == Ending::Closed && gate.has_held_all());
     Ok(())
 }

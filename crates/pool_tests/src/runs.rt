@@ -16,13 +16,13 @@ use test_support::markets::made_in_one_order;
 pub(crate) struct Outcome {
     pub(crate) ending: Ending,
     pub(crate) journal: Vec<Event>,
-    pub(crate) who: Vec<u8>,
+    pub(crate) event_workers: Vec<u8>,
     pub(crate) assignment: Assignment,
-    pub(crate) entered: Vec<u64>,
+    pub(crate) entry_counts: Vec<u64>,
 }
 
 // Runs the exchange of an instance, and returns the result without the ends and the agents.
-pub(crate) fn ran_on<G: Gate + Sync, R: Threads + Wait + Sync + Send + Copy>(
+pub(crate) fn run_on<G: Gate + Sync, R: Threads + Wait + Sync + Send + Copy>(
     rt: R,
     alloc: Global,
     inst: &Instance,
@@ -31,19 +31,19 @@ pub(crate) fn ran_on<G: Gate + Sync, R: Threads + Wait + Sync + Send + Copy>(
     gate: &G,
 ) -> Result<Outcome, RunFault> {
     match run(rt, alloc, inst, cap, workers, gate) {
-        Ok(done) => Ok(Outcome {
-            ending: done.ending,
-            journal: done.journal,
-            who: done.who,
-            assignment: done.assignment,
-            entered: done.entered,
+        Ok(finished_run) => Ok(Outcome {
+            ending: finished_run.ending,
+            journal: finished_run.journal,
+            event_workers: finished_run.who,
+            assignment: finished_run.assignment,
+            entry_counts: finished_run.entered,
         }),
         Err(fault) => Err(fault),
     }
 }
 
-// Runs the exchange of these members, as `ran_on` does.
-pub(crate) fn ran<G: Gate + Sync, R: Threads + Wait + Sync + Send + Copy>(
+// Runs the exchange of these members, as `run_on` does.
+pub(crate) fn run_of<G: Gate + Sync, R: Threads + Wait + Sync + Send + Copy>(
     rt: R,
     alloc: Global,
     members: Members,
@@ -52,7 +52,7 @@ pub(crate) fn ran<G: Gate + Sync, R: Threads + Wait + Sync + Send + Copy>(
     gate: &G,
 ) -> Result<Outcome, RunFault> {
     match instance_of(alloc, members) {
-        Ok(inst) => ran_on(rt, alloc, &inst, cap, workers, gate),
+        Ok(inst) => run_on(rt, alloc, &inst, cap, workers, gate),
         Err(_) => Err(RunFault::Memory),
     }
 }
@@ -64,10 +64,11 @@ fn ends_with<R: Threads + Wait + Sync + Send + Copy>(
     members: Members,
     cap: Capacity,
     workers: usize,
-    places: &[Option<u32>],
+    programmes: &[Option<u32>],
 ) -> bool {
-    match ran(rt, alloc, members, cap, workers, &OpenGate) {
-        Ok(outcome) => outcome.ending == Ending::Closed && has_places(&outcome.assignment, places),
+    match run_of(rt, alloc, members, cap, workers, &OpenGate) {
+        Ok(outcome) => outcome.ending == Ending::Closed
+            && has_places(&outcome.assignment, programmes),
         Err(_) => false,
     }
 }
@@ -139,11 +140,11 @@ const MARKETS: [(Members, &[Option<u32>]); 8] = [
 
 #[test]
 fn closes(rt: HostRuntime) {
-    for (members, places) in MARKETS {
+    for (members, programmes) in MARKETS {
         for cap in [Capacity::Full, Capacity::Each(1), Capacity::Each(1024)] {
             for workers in 1..=8 {
                 assert!(rt;
-                    ends_with(rt, rt.alloc(), members, cap, workers, places),
+                    ends_with(rt, rt.alloc(), members, cap, workers, programmes),
                     "{cap:?}, {workers} workers"
                 );
             }
@@ -157,11 +158,11 @@ fn is_refused<R: Threads + Wait + Sync + Send + Copy>(
     alloc: Global,
     cap: Capacity,
     workers: usize,
-    wanted: &RunFault,
+    expected_fault: &RunFault,
 ) -> bool {
-    match ran(rt, alloc, TWO_BY_TWO, cap, workers, &OpenGate) {
+    match run_of(rt, alloc, TWO_BY_TWO, cap, workers, &OpenGate) {
         Ok(_) => false,
-        Err(fault) => fault == *wanted,
+        Err(fault) => fault == *expected_fault,
     }
 }
 
@@ -174,9 +175,9 @@ fn refuses_a_bad_number_of_workers_or_capacity(rt: HostRuntime) {
         (Capacity::Each(0), 2, RunFault::BadCapacity),
         (Capacity::Each(1025), 2, RunFault::BadCapacity),
     ];
-    for (cap, workers, wanted) in &cases {
+    for (cap, workers, expected_fault) in &cases {
         assert!(rt;
-            is_refused(rt, rt.alloc(), *cap, *workers, wanted),
+            is_refused(rt, rt.alloc(), *cap, *workers, expected_fault),
             "{cap:?}, {workers} workers"
         );
     }
@@ -186,11 +187,11 @@ fn refuses_a_bad_number_of_workers_or_capacity(rt: HostRuntime) {
 // at least two workers entered some.
 fn agrees_with_gate(outcome: &Outcome, held: &Held) -> bool {
     let mut busy_workers = 0_usize;
-    for (worker, entered) in outcome.entered.iter().enumerate() {
-        if *entered != held.count(worker) {
+    for (worker, entry_count) in outcome.entry_counts.iter().enumerate() {
+        if *entry_count != held.count(worker) {
             return false;
         }
-        if *entered > 0 {
+        if *entry_count > 0 {
             busy_workers = busy_workers.saturating_add(1);
         }
     }
@@ -198,7 +199,7 @@ fn agrees_with_gate(outcome: &Outcome, held: &Held) -> bool {
         && outcome.ending == Ending::Closed
         && busy_workers >= 2
         && outcome.journal.len() as u64 == held.count_all()
-        && outcome.who.len() == outcome.journal.len()
+        && outcome.event_workers.len() == outcome.journal.len()
 }
 
 // How many events a run has; none unless its gate kept a worker waiting and the result is right.
@@ -210,7 +211,7 @@ fn counted_events<G: Gate + Sync, R: Threads + Wait + Sync + Send + Copy>(
     gate: &G,
     held: &Held,
 ) -> Option<usize> {
-    let Ok(outcome) = ran(rt, alloc, members, Capacity::Full, workers, gate) else {
+    let Ok(outcome) = run_of(rt, alloc, members, Capacity::Full, workers, gate) else {
         return None;
     };
     if agrees_with_gate(&outcome, held) {
@@ -262,7 +263,7 @@ fn is_in_one_order(sheet: &Assignment) -> bool {
 fn two_at_once_on_their_way(rt: HostRuntime) -> Result<(), Fail> {
     let inst = made_in_one_order(rt.alloc())?;
     let firm_gate = Firm(Held::new(9_999));
-    let outcome = ran_on(rt, rt.alloc(), &inst, Capacity::Full, 2, &firm_gate);
+    let outcome = run_on(rt, rt.alloc(), &inst, Capacity::Full, 2, &firm_gate);
     assert!(rt;
         outcome.is_ok_and(|outcome| agrees_with_gate(&outcome, &firm_gate.0)
             && is_in_one_order(&outcome.assignment))
@@ -281,7 +282,7 @@ fn is_stopped(outcome: &Outcome) -> bool {
         }
     }
     let mut entered_sum = 0_u64;
-    for worker_entries in &outcome.entered {
+    for worker_entries in &outcome.entry_counts {
         entered_sum = entered_sum.saturating_add(*worker_entries);
     }
     outcome.ending == Ending::Stopped
@@ -291,15 +292,15 @@ fn is_stopped(outcome: &Outcome) -> bool {
 
 #[test]
 fn heeds_a_stop(rt: HostRuntime) {
-    let outcome = ran(rt, rt.alloc(), TWO_BY_TWO, Capacity::Full, 2, &StopsAtOnce);
+    let outcome = run_of(rt, rt.alloc(), TWO_BY_TWO, Capacity::Full, 2, &StopsAtOnce);
     assert!(rt; outcome.is_ok_and(|outcome| is_stopped(&outcome)));
 }
 
 const TORN_TEXT: &str = "a desk's log differs from the journal";
 
 // Whether a fault prints as this text.
-fn says(alloc: Global, fault: RunFault, text: &str) -> Result<bool, AllocError> {
-    Ok(fault.to_string(alloc)?.as_str() == text)
+fn prints_as(alloc: Global, fault: RunFault, fault_text: &str) -> Result<bool, AllocError> {
+    Ok(fault.to_string(alloc)?.as_str() == fault_text)
 }
 
 // Whether the faults that name an event or a desk print the expected texts.
@@ -309,9 +310,9 @@ fn desk_faults_print(alloc: Global) -> Result<bool, AllocError> {
         event: Event::Close,
     };
     Ok(
-        says(alloc, receipt_fault, "a receipt was out of step")?
-            && says(alloc, RunFault::Torn(Desk::Resident(X)), TORN_TEXT)?
-            && says(
+        prints_as(alloc, receipt_fault, "a receipt was out of step")?
+            && prints_as(alloc, RunFault::Torn(Desk::Resident(X)), TORN_TEXT)?
+            && prints_as(
                 alloc,
                 RunFault::MailGone(Desk::Programme(B)),
                 "a mailbox is gone",
@@ -322,10 +323,10 @@ fn desk_faults_print(alloc: Global) -> Result<bool, AllocError> {
 #[test]
 fn prints_its_faults(rt: HostRuntime) -> Result<(), Fail> {
     let alloc = rt.alloc();
-    assert!(rt; says(alloc, RunFault::BadWorkers, "bad number of workers")?);
-    assert!(rt; says(alloc, RunFault::BadCapacity, "bad capacity")?);
-    assert!(rt; says(alloc, RunFault::Memory, "out of memory")?);
-    assert!(rt; says(alloc, RunFault::Thread, "a worker could not be started")?);
+    assert!(rt; prints_as(alloc, RunFault::BadWorkers, "bad number of workers")?);
+    assert!(rt; prints_as(alloc, RunFault::BadCapacity, "bad capacity")?);
+    assert!(rt; prints_as(alloc, RunFault::Memory, "out of memory")?);
+    assert!(rt; prints_as(alloc, RunFault::Thread, "a worker could not be started")?);
     assert!(rt; desk_faults_print(alloc)?);
     Ok(())
 }

@@ -57,7 +57,7 @@ impl<M: Copy, R: Wait + Copy> Model for SlippingPut<M, R> {
 
     ghost Value = { PutSide M };
 
-    ghost view = { λ e. e.end };
+    ghost view = { λ put. put.end };
 }
 
 impl<M: Copy, R: Wait + Copy> PutEnd<M> for SlippingPut<M, R> {
@@ -67,15 +67,15 @@ impl<M: Copy, R: Wait + Copy> PutEnd<M> for SlippingPut<M, R> {
 
     ghost may_go = { λ _. Unit {0} };
 
-    fn put(&mut self, m: M) -> PutReply<M> {
+    fn put(&mut self, message: M) -> PutReply<M> {
         let call = self.call_count;
         self.call_count = call.saturating_add(1);
         match self.slip {
-            Some((slip_call, PutSlip::Full)) if slip_call == call => PutReply::Full(m),
-            Some((slip_call, PutSlip::AlwaysFull)) if slip_call <= call => PutReply::Full(m),
-            Some((_, PutSlip::OftenFull)) if call % 8 < 7 => PutReply::Full(m),
-            Some((slip_call, PutSlip::Gone)) if slip_call <= call => PutReply::Gone(m),
-            _ => self.end.put(m),
+            Some((slip_call, PutSlip::Full)) if slip_call == call => PutReply::Full(message),
+            Some((slip_call, PutSlip::AlwaysFull)) if slip_call <= call => PutReply::Full(message),
+            Some((_, PutSlip::OftenFull)) if call % 8 < 7 => PutReply::Full(message),
+            Some((slip_call, PutSlip::Gone)) if slip_call <= call => PutReply::Gone(message),
+            _ => self.end.put(message),
         }
     }
 }
@@ -95,7 +95,7 @@ impl<M: Copy, R: Wait + Copy> Model for SlippingTake<M, R> {
 
     ghost Value = { List M };
 
-    ghost view = { λ e. e.given_messages.items };
+    ghost view = { λ take. take.given_messages.items };
 }
 
 impl<M: Copy, R: Wait + Copy> TakeEnd<M> for SlippingTake<M, R> {

@@ -1,5 +1,5 @@
 //! Runs of the pool by one to eight workers.
-use crate::runs::{Outcome, ran};
+use crate::runs::{Outcome, run_of};
 use exchange_core::{Capacity, Desk};
 use match_pool::{Ending, OpenGate};
 use std::alloc::Global;
@@ -12,24 +12,24 @@ use test_support::instances::{Members, TWO_PLACES, has_places};
 
 // Whether each event of a run has a worker, and each worker has as many events as the run reports.
 fn is_counted(outcome: &Outcome, workers: usize) -> bool {
-    for (worker, entered) in outcome.entered.iter().enumerate() {
+    for (worker, entry_count) in outcome.entry_counts.iter().enumerate() {
         let mut worker_events = 0_u64;
-        for by_worker in &outcome.who {
+        for by_worker in &outcome.event_workers {
             if usize::from(*by_worker) == worker {
                 worker_events = worker_events.saturating_add(1);
             }
         }
-        if worker_events != *entered {
+        if worker_events != *entry_count {
             return false;
         }
     }
-    outcome.entered.len() == workers && outcome.who.len() == outcome.journal.len()
+    outcome.entry_counts.len() == workers && outcome.event_workers.len() == outcome.journal.len()
 }
 
 #[test]
 fn one_worker_and_eight(rt: HostRuntime) {
     for workers in [1, 8] {
-        let outcome = ran(
+        let outcome = run_of(
             rt,
             rt.alloc(),
             TWO_PLACES,
@@ -98,7 +98,7 @@ fn goes_on<R: Threads + Wait + Sync + Send + Copy>(
     order: Order,
 ) -> bool {
     let gate = AllButOne::new(16, workers.saturating_sub(1) as u64, order);
-    let Ok(outcome) = ran(rt, alloc, PAIRS, Capacity::Full, workers, &gate) else {
+    let Ok(outcome) = run_of(rt, alloc, PAIRS, Capacity::Full, workers, &gate) else {
         return false;
     };
     gate.has_held_all()
@@ -124,14 +124,14 @@ fn one_goes_on_while_all_others_are_held(rt: HostRuntime) {
 #[test]
 fn a_worker_that_sleeps_ends_with_the_run(rt: HostRuntime) {
     let holds = Holds {
-        begun: 0,
-        offers: 0,
-        first: (Desk::Programme(A), 3),
-        other: None,
-        next: (0, Until::Entered(0)),
+        events_to_begin: 0,
+        events_to_take: 0,
+        first_desk_call: (Desk::Programme(A), 3),
+        other_desk_call: None,
+        next_takes: (0, Until::Entered(0)),
     };
     let gate = UntilDone::new(rt, holds);
-    let outcome = ran(rt, rt.alloc(), ONE_PAIR, Capacity::Full, 2, &gate);
+    let outcome = run_of(rt, rt.alloc(), ONE_PAIR, Capacity::Full, 2, &gate);
     assert!(rt;
         gate.has_held_all()
             && outcome.is_ok_and(|outcome| outcome.ending == Ending::Closed

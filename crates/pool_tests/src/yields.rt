@@ -2,7 +2,7 @@
 //! has to give the sheet that its journal leads to.
 ghost use Rattle.std.specs.Prelude.{true, false};
 
-use crate::runs::ran_on;
+use crate::runs::run_on;
 use exchange_core::{Capacity, Desk};
 use match_audit::check;
 use match_model::{Instance, InstanceBuilder, ModelFault, ProgrammeNo, ResidentNo};
@@ -80,8 +80,8 @@ fn give_lists(
         drawn_number(random_state).max(1),
     );
     let (mut residents, mut programmes) = (Vec::new(alloc), Vec::new(alloc));
-    for place in 0..7_u32 {
-        let other_number = first_number.wrapping_add(place.wrapping_mul(step)) % 7;
+    for factor in 0..7_u32 {
+        let other_number = first_number.wrapping_add(factor.wrapping_mul(step)) % 7;
         if drawn_number(random_state) < 5 {
             residents.push(ResidentNo(other_number))?;
         }
@@ -121,7 +121,7 @@ fn busy_workers_in<R: Threads + Wait + Sync + Send + Copy>(
         clock: AtomicU64::new(0),
         earlier_calls: AtomicU64::new(random_state),
     };
-    let Ok(outcome) = ran_on(rt, alloc, inst, cap, workers, &gate) else {
+    let Ok(outcome) = run_on(rt, alloc, inst, cap, workers, &gate) else {
         return None;
     };
     let check_result = check(alloc, inst, cap, &outcome.journal, &outcome.assignment);
@@ -129,8 +129,8 @@ fn busy_workers_in<R: Threads + Wait + Sync + Send + Copy>(
         return None;
     }
     let mut busy_workers = 0_usize;
-    for entered in &outcome.entered {
-        busy_workers = busy_workers.saturating_add((*entered > 0) as usize);
+    for entry_count in &outcome.entry_counts {
+        busy_workers = busy_workers.saturating_add((*entry_count > 0) as usize);
     }
     Some(busy_workers)
 }

@@ -36,10 +36,10 @@ fn audits(rt: HostRuntime) -> Result<(), Fail> {
             4,
         ),
     ];
-    for (texts, status, report, exit_code) in cases {
-        let expected = (Ok(status), report, exit_code);
+    for (docket, status, report, exit_code) in cases {
+        let outcome = (Ok(status), report, exit_code);
         assert!(rt;
-            serves_both(rt, rt.alloc(), Order::Audit, texts, expected)?,
+            serves_both(rt, rt.alloc(), Order::Audit, docket, outcome)?,
             "{report}"
         );
     }
@@ -87,10 +87,10 @@ const OLD_SHEET_AUDITS: [(&[&str], Status, &str, u8); 4] = [
 
 #[test]
 fn audits_of_old_sheets(rt: HostRuntime) -> Result<(), Fail> {
-    for (texts, status, report, exit_code) in OLD_SHEET_AUDITS {
-        let expected = (Ok(status), report, exit_code);
+    for (docket, status, report, exit_code) in OLD_SHEET_AUDITS {
+        let outcome = (Ok(status), report, exit_code);
         assert!(rt;
-            serves(rt, rt.alloc(), Order::Audit, texts, expected)?,
+            serves(rt, rt.alloc(), Order::Audit, docket, outcome)?,
             "{report}"
         );
     }

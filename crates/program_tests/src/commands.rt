@@ -54,17 +54,17 @@ pub(super) fn serves<H: Threads + Wait + RandomSource + Sync + Send + Copy>(
     rt: H,
     alloc: Global,
     order: Order,
-    texts: &[&str],
-    expected: (Result<Status, ServeFault>, &str, u8),
+    docket: &[&str],
+    outcome: (Result<Status, ServeFault>, &str, u8),
 ) -> Result<bool, AllocError> {
-    let (wanted_answer, wanted_text, wanted_exit) = expected;
-    let input = joined(alloc, texts)?;
-    let mut output = Vec::new(alloc);
-    let answer = serve(rt, alloc, order, input.as_bytes(), &mut output);
+    let (wanted_status, wanted_text, wanted_exit) = outcome;
+    let input = joined(alloc, docket)?;
+    let mut written_bytes = Vec::new(alloc);
+    let status = serve(rt, alloc, order, input.as_bytes(), &mut written_bytes);
     Ok(
-        answer == wanted_answer
-            && output.as_slice() == wanted_text.as_bytes()
-            && exit_status(&answer) == wanted_exit,
+        status == wanted_status
+            && written_bytes.as_slice() == wanted_text.as_bytes()
+            && exit_status(&status) == wanted_exit,
     )
 }
 
@@ -72,15 +72,15 @@ pub(super) fn serves<H: Threads + Wait + RandomSource + Sync + Send + Copy>(
 // higher.
 fn is_one_record_further(
     alloc: Global,
-    answer: &Result<Status, ServeFault>,
-    wanted_answer: &Result<Status, ServeFault>,
+    status: &Result<Status, ServeFault>,
+    wanted_status: &Result<Status, ServeFault>,
 ) -> Result<bool, AllocError> {
-    match (answer, wanted_answer) {
+    match (status, wanted_status) {
         (Err(fault), Err(wanted_fault)) => {
             let wanted_text = one_record_further(alloc, wanted_fault.to_string(alloc)?.as_str())?;
             Ok(fault.to_string(alloc)?.as_str() == wanted_text.as_str())
         }
-        _ => Ok(answer == wanted_answer),
+        _ => Ok(status == wanted_status),
     }
 }
 
@@ -90,24 +90,24 @@ pub(super) fn serves_both<H: Threads + Wait + RandomSource + Sync + Send + Copy>
     rt: H,
     alloc: Global,
     order: Order,
-    texts: &[&str],
-    expected: (Result<Status, ServeFault>, &str, u8),
+    docket: &[&str],
+    outcome: (Result<Status, ServeFault>, &str, u8),
 ) -> Result<bool, AllocError> {
-    let (wanted_answer, wanted_text, wanted_exit) = expected;
-    let version_1 = joined(alloc, texts)?;
+    let (wanted_status, wanted_text, wanted_exit) = outcome;
+    let version_1 = joined(alloc, docket)?;
     let version_2 = joined(alloc, &[VERSION_2, version_1.as_str()])?;
-    let mut output = Vec::new(alloc);
-    let answer = serve(rt, alloc, order, version_2.as_bytes(), &mut output);
-    let serves_version_2 = is_one_record_further(alloc, &answer, &wanted_answer)?
-        && output.as_slice() == wanted_text.as_bytes()
-        && exit_status(&answer) == wanted_exit;
+    let mut written_bytes = Vec::new(alloc);
+    let status = serve(rt, alloc, order, version_2.as_bytes(), &mut written_bytes);
+    let serves_version_2 = is_one_record_further(alloc, &status, &wanted_status)?
+        && written_bytes.as_slice() == wanted_text.as_bytes()
+        && exit_status(&status) == wanted_exit;
     Ok(
         serves(
             rt,
             alloc,
             order,
-            texts,
-            (wanted_answer, wanted_text, wanted_exit),
+            docket,
+            (wanted_status, wanted_text, wanted_exit),
         )? && serves_version_2,
     )
 }

@@ -26,21 +26,24 @@ fn tells_of_cut<H: Threads + Wait + RandomSource + Sync + Send + Copy>(
     rt: H,
     alloc: Global,
     order: Order,
-    text: &str,
+    docket: &str,
     good_bytes: usize,
-    place: u32,
+    record_number: u32,
 ) -> bool {
-    let mut output = Vec::new(alloc);
-    let answer = serve(
+    let mut written_bytes = Vec::new(alloc);
+    let status = serve(
         rt,
         alloc,
         order,
-        CutReader::new(text.as_bytes(), good_bytes),
-        &mut output,
+        CutReader::new(docket.as_bytes(), good_bytes),
+        &mut written_bytes,
     );
-    answer == Err(ServeFault::Docket(DocketFault::Read { place }))
-        && output.is_empty()
-        && exit_status(&answer) == 1
+    status
+        == Err(ServeFault::Docket(DocketFault::Read {
+            place: record_number,
+        }))
+        && written_bytes.is_empty()
+        && exit_status(&status) == 1
 }
 
 // The first number of bytes after which the reader fails and the command doesn't report it.
@@ -48,21 +51,21 @@ fn first_unreported_cut<H: Threads + Wait + RandomSource + Sync + Send + Copy>(
     rt: H,
     alloc: Global,
     order: Order,
-    text: &str,
+    docket: &str,
 ) -> Option<usize> {
-    let mut place = 1;
-    for (good_bytes, byte) in text.as_bytes().iter().enumerate() {
-        if !tells_of_cut(rt, alloc, order, text, good_bytes, place) {
+    let mut record_number = 1;
+    for (good_bytes, byte) in docket.as_bytes().iter().enumerate() {
+        if !tells_of_cut(rt, alloc, order, docket, good_bytes, record_number) {
             return Some(good_bytes);
         }
         if *byte == b'\n' {
-            place = place.saturating_add(1);
+            record_number = record_number.saturating_add(1);
         }
     }
-    if tells_of_cut(rt, alloc, order, text, text.len(), place) {
+    if tells_of_cut(rt, alloc, order, docket, docket.len(), record_number) {
         None
     } else {
-        Some(text.len())
+        Some(docket.len())
     }
 }
 
@@ -74,12 +77,12 @@ fn tells_of_broken_readers(rt: HostRuntime) -> Result<(), Fail> {
         &[SMALL_DOCKET, FULL_CAPACITY, SMALL_JOURNAL, SMALL_SHEET],
     )?;
     let version_2 = joined(alloc, &[VERSION_2, version_1.as_str()])?;
-    for text in [version_1.as_str(), version_2.as_str()] {
+    for docket in [version_1.as_str(), version_2.as_str()] {
         for (order, status, _) in ORDERS {
-            assert!(rt; first_unreported_cut(rt, alloc, order, text) == None);
-            let reader = CutReader::new(text.as_bytes(), usize::MAX);
-            let mut output = Vec::new(alloc);
-            assert!(rt; serve(rt, alloc, order, reader, &mut output) == Ok(status));
+            assert!(rt; first_unreported_cut(rt, alloc, order, docket) == None);
+            let reader = CutReader::new(docket.as_bytes(), usize::MAX);
+            let mut written_bytes = Vec::new(alloc);
+            assert!(rt; serve(rt, alloc, order, reader, &mut written_bytes) == Ok(status));
         }
     }
     Ok(())
@@ -96,9 +99,9 @@ fn tells_of_cut_output<H: Threads + Wait + RandomSource + Sync + Send + Copy>(
     good_calls: usize,
 ) -> bool {
     let mut writer = CutWriter::new(Vec::new(alloc), good_calls);
-    let answer = serve(rt, alloc, order, input.as_bytes(), &mut writer);
-    answer == Err(ServeFault::Docket(DocketFault::Write))
-        && exit_status(&answer) == 1
+    let status = serve(rt, alloc, order, input.as_bytes(), &mut writer);
+    status == Err(ServeFault::Docket(DocketFault::Write))
+        && exit_status(&status) == 1
         && wanted_output.as_bytes().starts_with(writer.accepted())
 }
 
@@ -152,16 +155,20 @@ fn tells_of_broken_writers(rt: HostRuntime) -> Result<(), Fail> {
 fn tells_of_a_reader_that_would_block(rt: HostRuntime) -> Result<(), Fail> {
     let alloc = rt.alloc();
     let stable_docket = joined(alloc, &[SMALL_DOCKET, SMALL_SHEET])?;
-    for (good_bytes, place) in [(0, 1), (stable_docket.len(), 11)] {
+    for (good_bytes, record_number) in [(0, 1), (stable_docket.len(), 11)] {
         let reader = CutReader::failing(
             stable_docket.as_bytes(),
             good_bytes,
             io::ErrorKind::WouldBlock,
         );
-        let mut output = Vec::new(alloc);
-        let answer = serve_audit(&OneByte(7), alloc, reader, &mut output);
+        let mut written_bytes = Vec::new(alloc);
+        let status = serve_audit(&OneByte(7), alloc, reader, &mut written_bytes);
         assert!(rt;
-            answer == Err(ServeFault::Docket(DocketFault::Read { place })) && output.is_empty(),
+            status
+                == Err(ServeFault::Docket(DocketFault::Read {
+                    place: record_number
+                }))
+                && written_bytes.is_empty(),
             "{good_bytes}"
         );
     }
@@ -173,12 +180,12 @@ const UNKNOWN_KIND: &str = "Q,a,1\nZ,b\n";
 // Audits a docket. The reader is interrupted again and again, each time after this number of bytes.
 fn audit(
     alloc: Global,
-    text: &str,
+    docket: &str,
     interval: usize,
-    output: &mut Vec<u8>,
+    written_bytes: &mut Vec<u8>,
 ) -> Result<Status, ServeFault> {
-    let reader = InterruptedReader::new(text.as_bytes(), interval);
-    serve_audit(&OneByte(7), alloc, reader, output)
+    let reader = InterruptedReader::new(docket.as_bytes(), interval);
+    serve_audit(&OneByte(7), alloc, reader, written_bytes)
 }
 
 #[test]
@@ -189,12 +196,12 @@ fn reads_on_after_an_interruption(rt: HostRuntime) -> Result<(), Fail> {
         (stable_docket.as_str(), Ok(Status::Stable), "S,stable\n"),
         (UNKNOWN_KIND, Err(unknown_kind), ""),
     ];
-    for (docket_text, wanted, report) in cases {
+    for (docket, wanted_status, report) in cases {
         for interval in [1, 2, 7] {
-            let mut output = Vec::new(rt.alloc());
-            let answer = audit(rt.alloc(), docket_text, interval, &mut output);
+            let mut written_bytes = Vec::new(rt.alloc());
+            let status = audit(rt.alloc(), docket, interval, &mut written_bytes);
             assert!(rt;
-                answer == wanted && output.as_slice() == report.as_bytes(),
+                status == wanted_status && written_bytes.as_slice() == report.as_bytes(),
                 "{report}"
             );
         }

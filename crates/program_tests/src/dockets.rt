@@ -34,31 +34,31 @@ fn read_slowly(alloc: Global, input: &str, good_bytes: usize) -> Result<Docket, 
 /// is `read`.
 fn has_outcome(
     alloc: Global,
-    answer: Result<Docket, DocketFault>,
-    wanted: &str,
+    reading: Result<Docket, DocketFault>,
+    outcome: &str,
 ) -> Result<bool, AllocError> {
-    match answer {
-        Ok(_) => Ok(wanted == "read"),
-        Err(fault) => Ok(fault.to_string(alloc)?.as_str() == wanted),
+    match reading {
+        Ok(_) => Ok(outcome == "read"),
+        Err(fault) => Ok(fault.to_string(alloc)?.as_str() == outcome),
     }
 }
 
 /// Whether reading the docket in these texts, one after another, ends as expected.
-fn reads_as(alloc: Global, texts: &[&str], wanted: &str) -> Result<bool, AllocError> {
-    let text = joined(alloc, texts)?;
-    has_outcome(alloc, read(alloc, text.as_str()), wanted)
+fn reads_as(alloc: Global, docket: &[&str], outcome: &str) -> Result<bool, AllocError> {
+    let docket_text = joined(alloc, docket)?;
+    has_outcome(alloc, read(alloc, docket_text.as_str()), outcome)
 }
 
 /// Whether reading a docket ends as expected, with a reader that gives all bytes at once and with a slow reader. Spaces
 /// separate the records of the docket.
-fn reads_both_ways_as(alloc: Global, records: &str, wanted: &str) -> Result<bool, AllocError> {
+fn reads_both_ways_as(alloc: Global, records: &str, outcome: &str) -> Result<bool, AllocError> {
     let mut input = records.replace(alloc, " ", "\n")?;
     input.push_str("\n")?;
-    let reads_at_once = has_outcome(alloc, read(alloc, input.as_str()), wanted)?;
+    let reads_at_once = has_outcome(alloc, read(alloc, input.as_str()), outcome)?;
     let reads_slowly = has_outcome(
         alloc,
         read_slowly(alloc, input.as_str(), usize::MAX),
-        wanted,
+        outcome,
     )?;
     Ok(reads_at_once && reads_slowly)
 }
@@ -69,10 +69,10 @@ fn reads_both_ways_as(alloc: Global, records: &str, wanted: &str) -> Result<bool
 /// Spaces separate the records in a line, and the expected outcome stands after ` = `.
 fn first_wrong_line<'a>(alloc: Global, lines: &'a str) -> Result<Option<&'a str>, AllocError> {
     for line in lines.lines() {
-        let Some((records, wanted)) = line.split_once(" = ") else {
+        let Some((records, outcome)) = line.split_once(" = ") else {
             return Ok(Some(line));
         };
-        if !reads_both_ways_as(alloc, records, wanted)? {
+        if !reads_both_ways_as(alloc, records, outcome)? {
             return Ok(Some(line));
         }
     }
@@ -86,14 +86,14 @@ fn first_wrong_line_of_version_2<'a>(
     lines: &'a str,
 ) -> Result<Option<&'a str>, AllocError> {
     for line in lines.lines() {
-        let Some((records, wanted)) = line.split_once(" = ") else {
+        let Some((records, outcome)) = line.split_once(" = ") else {
             return Ok(Some(line));
         };
         let version_2 = joined(alloc, &["V,2 ", records])?;
         if !reads_both_ways_as(
             alloc,
             version_2.as_str(),
-            one_record_further(alloc, wanted)?.as_str(),
+            one_record_further(alloc, outcome)?.as_str(),
         )? {
             return Ok(Some(line));
         }
@@ -115,7 +115,10 @@ fn capacities(rt: HostRuntime) {
         ("Full", None),
         ("", None),
     ];
-    for (text, capacity) in cases {
-        assert!(rt; capacity_of(text.as_bytes()) == capacity, "{text}");
+    for (capacity_text, capacity) in cases {
+        assert!(rt;
+            capacity_of(capacity_text.as_bytes()) == capacity,
+            "{capacity_text}"
+        );
     }
 }

@@ -29,8 +29,11 @@ fn tells_faults(rt: HostRuntime) -> Result<(), Fail> {
         (ServeFault::NoJournal, "no journal in the docket"),
         (ServeFault::Memory, "out of memory"),
     ];
-    for (fault, text) in cases {
-        assert!(rt; fault.to_string(alloc)?.as_str() == text, "{text}");
+    for (fault, fault_text) in cases {
+        assert!(rt;
+            fault.to_string(alloc)?.as_str() == fault_text,
+            "{fault_text}"
+        );
     }
     assert!(rt; LineFault::Memory.to_string(alloc)?.as_str() == "out of memory");
     assert!(rt; line_status(&LineFault::Memory) == 1);
@@ -102,7 +105,7 @@ const COMMAND_LINES: [(&[&str], Result<Order, u8>); 21] = [
 #[test]
 fn reads_lines(rt: HostRuntime) {
     assert!(rt; MATCH == Order::Match(MatchOptions::default()));
-    for (words, wanted) in COMMAND_LINES {
-        assert!(rt; order_of(rt.alloc(), words) == wanted, "{words:?}");
+    for (words, expected_order) in COMMAND_LINES {
+        assert!(rt; order_of(rt.alloc(), words) == expected_order, "{words:?}");
     }
 }

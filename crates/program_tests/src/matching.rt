@@ -43,10 +43,10 @@ fn matches(rt: HostRuntime) -> Result<(), Fail> {
             SMALL_SHEET,
         ),
     ];
-    for (texts, sheet) in cases {
-        let expected = (Ok(Status::Closed), sheet, 0);
+    for (docket, sheet) in cases {
+        let outcome = (Ok(Status::Closed), sheet, 0);
         assert!(rt;
-            serves_both(rt, rt.alloc(), MATCH, texts, expected)?,
+            serves_both(rt, rt.alloc(), MATCH, docket, outcome)?,
             "{sheet}"
         );
     }
@@ -55,10 +55,10 @@ fn matches(rt: HostRuntime) -> Result<(), Fail> {
 
 #[test]
 fn matches_through_narrow_mailboxes(rt: HostRuntime) -> Result<(), Fail> {
-    for (text, sheet) in [(QUOTAS_DOCKET, QUOTAS_SHEET), (SMALL_DOCKET, SMALL_SHEET)] {
-        let expected = (Ok(Status::Closed), sheet, 0);
+    for (docket_text, sheet) in [(QUOTAS_DOCKET, QUOTAS_SHEET), (SMALL_DOCKET, SMALL_SHEET)] {
+        let outcome = (Ok(Status::Closed), sheet, 0);
         assert!(rt;
-            serves_both(rt, rt.alloc(), NARROW_MATCH, &[text], expected)?,
+            serves_both(rt, rt.alloc(), NARROW_MATCH, &[docket_text], outcome)?,
             "{sheet}"
         );
     }
@@ -79,9 +79,9 @@ fn refuses_wrong_options(rt: HostRuntime) -> Result<(), Fail> {
             capacity,
             journal: JournalForm::Absent,
         });
-        let expected = (Err(ServeFault::Run(fault)), "", 1);
+        let outcome = (Err(ServeFault::Run(fault)), "", 1);
         assert!(rt;
-            serves(rt, rt.alloc(), order, &[SMALL_DOCKET], expected)?,
+            serves(rt, rt.alloc(), order, &[SMALL_DOCKET], outcome)?,
             "{workers}"
         );
     }
@@ -90,8 +90,8 @@ fn refuses_wrong_options(rt: HostRuntime) -> Result<(), Fail> {
 
 #[test]
 fn writes_the_journal_of_nothing(rt: HostRuntime) -> Result<(), Fail> {
-    let expected = (Ok(Status::Closed), "C,full\nE,close\n", 0);
-    assert!(rt; serves_both(rt, rt.alloc(), MATCH_WITH_JOURNAL, &[], expected)?);
+    let outcome = (Ok(Status::Closed), "C,full\nE,close\n", 0);
+    assert!(rt; serves_both(rt, rt.alloc(), MATCH_WITH_JOURNAL, &[], outcome)?);
     Ok(())
 }
 
@@ -103,7 +103,7 @@ const JOURNAL_BY_ONE_WORKER: Order = Order::Match(MatchOptions {
 
 #[test]
 fn writes_the_journal_of_nothing_by_worker(rt: HostRuntime) -> Result<(), Fail> {
-    let expected = (Ok(Status::Closed), "C,full,1\nE,close,0\n", 0);
-    assert!(rt; serves(rt, rt.alloc(), JOURNAL_BY_ONE_WORKER, &[], expected)?);
+    let outcome = (Ok(Status::Closed), "C,full,1\nE,close,0\n", 0);
+    assert!(rt; serves(rt, rt.alloc(), JOURNAL_BY_ONE_WORKER, &[], outcome)?);
     Ok(())
 }

@@ -46,11 +46,11 @@ fn replays_good_journals(rt: HostRuntime) -> Result<(), Fail> {
         ),
         (&[SMALL_DOCKET, "C,1024\n", SMALL_JOURNAL], "G,9\n"),
     ];
-    for (texts, row) in cases {
-        let expected = (Ok(Status::ReplayGood), row, 0);
+    for (docket, replay_row) in cases {
+        let outcome = (Ok(Status::ReplayGood), replay_row, 0);
         assert!(rt;
-            serves_both(rt, rt.alloc(), Order::Replay, texts, expected)?,
-            "{row}"
+            serves_both(rt, rt.alloc(), Order::Replay, docket, outcome)?,
+            "{replay_row}"
         );
     }
     Ok(())
@@ -160,11 +160,11 @@ const REFUSED_JOURNALS: [(&[&str], &str); 15] = [
 
 #[test]
 fn replays_bad_journals(rt: HostRuntime) -> Result<(), Fail> {
-    for (texts, row) in REFUSED_JOURNALS {
-        let expected = (Ok(Status::ReplayBad), row, 4);
+    for (docket, replay_row) in REFUSED_JOURNALS {
+        let outcome = (Ok(Status::ReplayBad), replay_row, 4);
         assert!(rt;
-            serves_both(rt, rt.alloc(), Order::Replay, texts, expected)?,
-            "{row}"
+            serves_both(rt, rt.alloc(), Order::Replay, docket, outcome)?,
+            "{replay_row}"
         );
     }
     Ok(())
@@ -226,13 +226,13 @@ const FORGED_JOURNALS: [(&[usize], Status, &str, u8); 7] = [
 
 #[test]
 fn sees_forged_journals(rt: HostRuntime) -> Result<(), Fail> {
-    for (event_indices, status, row, exit_code) in FORGED_JOURNALS {
+    for (event_indices, status, replay_row, exit_code) in FORGED_JOURNALS {
         let journal = journal_of(rt.alloc(), event_indices)?;
-        let texts = [SMALL_DOCKET, journal.as_str()];
-        let expected = (Ok(status), row, exit_code);
+        let docket = [SMALL_DOCKET, journal.as_str()];
+        let outcome = (Ok(status), replay_row, exit_code);
         assert!(rt;
-            serves_both(rt, rt.alloc(), Order::Replay, &texts, expected)?,
-            "{row}"
+            serves_both(rt, rt.alloc(), Order::Replay, &docket, outcome)?,
+            "{replay_row}"
         );
     }
     Ok(())
@@ -282,11 +282,11 @@ fn replays_journals_by_worker(rt: HostRuntime) -> Result<(), Fail> {
             4,
         ),
     ];
-    for (texts, status, rows, exit_code) in cases {
-        let expected = (Ok(status), rows, exit_code);
+    for (docket, status, replay_rows, exit_code) in cases {
+        let outcome = (Ok(status), replay_rows, exit_code);
         assert!(rt;
-            serves(rt, rt.alloc(), Order::Replay, texts, expected)?,
-            "{rows}"
+            serves(rt, rt.alloc(), Order::Replay, docket, outcome)?,
+            "{replay_rows}"
         );
     }
     Ok(())
@@ -312,10 +312,10 @@ fn refuses_wrong_workers(rt: HostRuntime) -> Result<(), Fail> {
             DocketFault::BadEvent { place: 7 },
         ),
     ];
-    for (texts, fault) in cases {
-        let expected = (Err(ServeFault::Docket(fault)), "", 3);
+    for (docket, fault) in cases {
+        let outcome = (Err(ServeFault::Docket(fault)), "", 3);
         assert!(rt;
-            serves(rt, rt.alloc(), Order::Replay, texts, expected)?,
+            serves(rt, rt.alloc(), Order::Replay, docket, outcome)?,
             "{fault}"
         );
     }
@@ -370,11 +370,11 @@ const OLD_JOURNAL_REPLAYS: [(&[&str], Status, &str, u8); 3] = [
 
 #[test]
 fn replays_of_old_journals(rt: HostRuntime) -> Result<(), Fail> {
-    for (texts, status, row, exit_code) in OLD_JOURNAL_REPLAYS {
-        let expected = (Ok(status), row, exit_code);
+    for (docket, status, replay_row, exit_code) in OLD_JOURNAL_REPLAYS {
+        let outcome = (Ok(status), replay_row, exit_code);
         assert!(rt;
-            serves(rt, rt.alloc(), Order::Replay, texts, expected)?,
-            "{row}"
+            serves(rt, rt.alloc(), Order::Replay, docket, outcome)?,
+            "{replay_row}"
         );
     }
     Ok(())

@@ -73,10 +73,10 @@ pub(super) fn one_record_further(alloc: Global, fault_text: &str) -> Result<Stri
 }
 
 /// These texts, one after another.
-pub(super) fn joined(alloc: Global, texts: &[&str]) -> Result<String, AllocError> {
+pub(super) fn joined(alloc: Global, text_parts: &[&str]) -> Result<String, AllocError> {
     let mut joined_text = String::new(alloc);
-    for text in texts {
-        joined_text.push_str(text)?;
+    for part in text_parts {
+        joined_text.push_str(part)?;
     }
     Ok(joined_text)
 }

@@ -64,18 +64,18 @@ fn names_its_workers<H: Threads + Wait + RandomSource + Sync + Send + Copy>(
         capacity: Capacity::Full,
         journal: JournalForm::ByWorker,
     };
-    let mut written = Vec::new(alloc);
-    let status = serve_match(rt, alloc, docket.as_bytes(), &mut written, &options, &gate);
+    let mut new_rows = Vec::new(alloc);
+    let status = serve_match(rt, alloc, docket.as_bytes(), &mut new_rows, &options, &gate);
     let mut replay_rows = format!(in alloc; "G,{}\n", gate.0.count_all())?;
     let counts_agree = names_workers_as_counted(
         alloc,
-        written.as_slice(),
+        new_rows.as_slice(),
         &gate,
         workers,
         &mut replay_rows,
     )?;
     let mut whole_docket = docket.as_bytes().to_vec(alloc)?;
-    whole_docket.extend_from_slice(written.as_slice())?;
+    whole_docket.extend_from_slice(new_rows.as_slice())?;
     let mut replay_output = Vec::new(alloc);
     let replay_status = serve_replay(&rt, alloc, whole_docket.as_slice(), &mut replay_output);
     Ok(
@@ -179,12 +179,12 @@ fn names_receipt_workers(journal: &Journal, receipts: &mut [Receipt]) -> bool {
     };
     for (event, worker) in journal.events.iter().zip(journal_workers.who.as_slice()) {
         let desk = desk_of(event);
-        let made_by = match event {
+        let receipt_worker = match event {
             Event::Take { .. } | Event::Hear { .. } => next_receipt_worker(receipts, desk),
             Event::Answer { .. } => last_receipt_worker(receipts, desk),
             Event::Offer { .. } | Event::Close => continue,
         };
-        if made_by != Some(usize::from(*worker)) {
+        if receipt_worker != Some(usize::from(*worker)) {
             return false;
         }
     }
@@ -192,8 +192,8 @@ fn names_receipt_workers(journal: &Journal, receipts: &mut [Receipt]) -> bool {
 }
 
 // The docket of these bytes, or none if the bytes are no docket.
-fn docket_of(alloc: Global, text: &[u8]) -> Option<Docket> {
-    read_docket(&OneByte(7), alloc, text).ok()
+fn docket_of(alloc: Global, docket_text: &[u8]) -> Option<Docket> {
+    read_docket(&OneByte(7), alloc, docket_text).ok()
 }
 
 // Whether a match with this number of workers names the right worker of each receipt and of each answer.
@@ -214,10 +214,17 @@ fn tells_its_workers<H: Threads + Wait + RandomSource + Sync + Send + Copy>(
         capacity: Capacity::Full,
         journal: JournalForm::ByWorker,
     };
-    let mut text = docket.as_bytes().to_vec(alloc)?;
-    let status = serve_match(rt, alloc, docket.as_bytes(), &mut text, &options, &gate);
+    let mut docket_text = docket.as_bytes().to_vec(alloc)?;
+    let status = serve_match(
+        rt,
+        alloc,
+        docket.as_bytes(),
+        &mut docket_text,
+        &options,
+        &gate,
+    );
     let mut receipts = gate.receipts.into_inner();
-    let Some(written_docket) = docket_of(alloc, text.as_slice()) else {
+    let Some(written_docket) = docket_of(alloc, docket_text.as_slice()) else {
         return Ok(false);
     };
     let Some(journal) = written_docket.journal() else {
@@ -228,14 +235,14 @@ fn tells_its_workers<H: Threads + Wait + RandomSource + Sync + Send + Copy>(
 
 // A docket of one programme that ranks thirty residents and has a place for each.
 fn docket_of_thirty(alloc: Global) -> Result<String, AllocError> {
-    let mut text = String::new(alloc);
-    text.push_str("Q,a,30\nP,a")?;
-    push_all_numbered(&mut text, alloc, ",r", 30, "")?;
-    text.push_str("\n")?;
-    for r in 0..30 {
-        push_numbered(&mut text, alloc, "R,r", r, ",a\n")?;
+    let mut docket_text = String::new(alloc);
+    docket_text.push_str("Q,a,30\nP,a")?;
+    push_all_numbered(&mut docket_text, alloc, ",r", 30, "")?;
+    docket_text.push_str("\n")?;
+    for resident in 0..30 {
+        push_numbered(&mut docket_text, alloc, "R,r", resident, ",a\n")?;
     }
-    Ok(text)
+    Ok(docket_text)
 }
 
 #[test]

@@ -32,15 +32,15 @@ pub enum Until {
 #[derive(Clone, Copy, Debug)]
 pub struct Holds {
     /// After the first event, its worker waits until this many events are entered.
-    pub begun: u64,
+    pub events_to_begin: u64,
     /// Every call for a resident's desk waits until this many events are entered.
-    pub offers: u64,
+    pub events_to_take: u64,
     /// The first call for this desk waits until this many events are entered, and then until the other workers sleep.
-    pub first: (Desk, u64),
+    pub first_desk_call: (Desk, u64),
     /// The first call for another desk waits until this many events are entered.
-    pub other: Option<(Desk, u64)>,
+    pub other_desk_call: Option<(Desk, u64)>,
     /// How many calls for residents' desks wait, after the call for the first desk went on, and for what.
-    pub next: (u64, Until),
+    pub next_takes: (u64, Until),
 }
 
 /// A gate that keeps calls of `pass` waiting until the other workers have done what they can. If they don't do it in
@@ -80,10 +80,10 @@ impl<R: Wait + Copy> UntilDone<R> {
 
     /// Whether each call that had to wait has waited, and the other workers did what they could meanwhile.
     pub fn has_held_all(&self) -> bool {
-        let other_calls = self.holds.other.is_some() as u64;
+        let other_calls = self.holds.other_desk_call.is_some() as u64;
         self.others_sleep.load(Ordering::SeqCst)
             && self.ended_holds.load(Ordering::SeqCst)
-                == self.holds.next.0.saturating_add(other_calls)
+                == self.holds.next_takes.0.saturating_add(other_calls)
             && !self.has_given_up.load(Ordering::SeqCst)
     }
 
@@ -94,8 +94,9 @@ impl<R: Wait + Copy> UntilDone<R> {
 
     fn is_done(&self, until: Until) -> bool {
         match until {
-            Until::Entered(events) => self.entered_events.load(Ordering::SeqCst) >= events,
-            Until::Takes(calls) => self.take_calls.load(Ordering::SeqCst) >= calls,
+            Until::Entered(event_count) => self.entered_events.load(Ordering::SeqCst)
+                >= event_count,
+            Until::Takes(call_count) => self.take_calls.load(Ordering::SeqCst) >= call_count,
         }
     }
 
@@ -116,8 +117,8 @@ impl<R: Wait + Copy> UntilDone<R> {
 
     // Keeps the first call for the first desk waiting: until this many events are entered, and then until the others
     // sleep.
-    fn settle(&self, events: u64) {
-        if self.wait(Until::Entered(events)) {
+    fn settle(&self, event_count: u64) {
+        if self.wait(Until::Entered(event_count)) {
             for _ in 0..NAPS_UNTIL_ASLEEP {
                 self.nap(NAP_MICROS);
             }
@@ -134,15 +135,15 @@ impl<R: Wait + Copy> UntilDone<R> {
 
     // If this is the first call for the other desk, the number of events until which it waits; else none.
     fn as_other(&self, desk: Desk) -> Option<u64> {
-        let (other_desk, events) = self.holds.other?;
+        let (other_desk, event_count) = self.holds.other_desk_call?;
         let is_first = desk == other_desk && !self.has_other_come.swap(true, Ordering::SeqCst);
-        is_first.then_some(events)
+        is_first.then_some(event_count)
     }
 
     // Whether this call for a resident's desk is one of those that wait after the first desk's call went on.
     fn is_next(&self) -> bool {
         self.others_sleep.load(Ordering::SeqCst)
-            && self.next_calls.fetch_add(1, Ordering::SeqCst) < self.holds.next.0
+            && self.next_calls.fetch_add(1, Ordering::SeqCst) < self.holds.next_takes.0
     }
 }
 
@@ -157,22 +158,22 @@ impl<R: Wait + Copy + Sync> Gate for UntilDone<R> {
         let is_take = matches!(&desk, Desk::Resident(_));
         if is_take {
             self.take_calls.fetch_add(1, Ordering::SeqCst);
-            self.wait(Until::Entered(self.holds.offers));
+            self.wait(Until::Entered(self.holds.events_to_take));
         }
-        let (first_desk, events) = self.holds.first;
+        let (first_desk, event_count) = self.holds.first_desk_call;
         if desk == first_desk && !self.has_first_come.swap(true, Ordering::SeqCst) {
-            self.settle(events);
-        } else if let Some(events) = self.as_other(desk) {
-            self.hold(Until::Entered(events));
+            self.settle(event_count);
+        } else if let Some(event_count) = self.as_other(desk) {
+            self.hold(Until::Entered(event_count));
         } else if is_take && self.is_next() {
-            self.hold(self.holds.next.1);
+            self.hold(self.holds.next_takes.1);
         }
         Go::On
     }
 
     fn entered(&self, _worker: usize) {
         if self.entered_events.fetch_add(1, Ordering::SeqCst) == 0 {
-            self.wait(Until::Entered(self.holds.begun));
+            self.wait(Until::Entered(self.holds.events_to_begin));
         }
     }
 }

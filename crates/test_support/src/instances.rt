@@ -13,23 +13,23 @@ pub const TWO_BY_TWO: Members = (&[(1, &[0, 1]), (1, &[1, 0])], &[&[1, 0], &[0, 
 pub const TWO_PLACES: Members = (&[(2, &[0, 1, 2]), (1, &[0])], &[&[1, 0], &[0], &[0]]);
 
 fn residents(alloc: Global, numbers: &[u32]) -> Result<Vec<ResidentNo>, ModelFault> {
-    let mut list = Vec::new(alloc);
+    let mut residents = Vec::new(alloc);
     for number in numbers {
-        let Ok(()) = list.push(ResidentNo(*number)) else {
+        let Ok(()) = residents.push(ResidentNo(*number)) else {
             return Err(ModelFault::Memory);
         };
     }
-    Ok(list)
+    Ok(residents)
 }
 
 fn programmes(alloc: Global, numbers: &[u32]) -> Result<Vec<ProgrammeNo>, ModelFault> {
-    let mut list = Vec::new(alloc);
+    let mut programmes = Vec::new(alloc);
     for number in numbers {
-        let Ok(()) = list.push(ProgrammeNo(*number)) else {
+        let Ok(()) = programmes.push(ProgrammeNo(*number)) else {
             return Err(ModelFault::Memory);
         };
     }
-    Ok(list)
+    Ok(programmes)
 }
 
 fn add_members(
@@ -40,14 +40,14 @@ fn add_members(
     for _ in members.1 {
         builder.add_resident()?;
     }
-    for (quota, list) in members.0 {
+    for (quota, resident_numbers) in members.0 {
         let programme = builder.add_programme(*quota)?;
-        let list = residents(alloc, list)?;
-        builder.programme_list(programme, list.as_slice())?;
+        let ranked_residents = residents(alloc, resident_numbers)?;
+        builder.programme_list(programme, ranked_residents.as_slice())?;
     }
-    for (resident, list) in (0..20_000).zip(members.1) {
-        let list = programmes(alloc, list)?;
-        builder.resident_list(ResidentNo(resident), list.as_slice())?;
+    for (resident, programme_numbers) in (0..20_000).zip(members.1) {
+        let ranked_programmes = programmes(alloc, programme_numbers)?;
+        builder.resident_list(ResidentNo(resident), ranked_programmes.as_slice())?;
     }
     Ok(())
 }
@@ -60,13 +60,14 @@ pub fn instance_of(alloc: Global, members: Members) -> Result<Instance, ModelFau
 }
 
 /// Whether a sheet matches each resident with the programme that has this number, or with none.
-pub fn has_places(sheet: &Assignment, places: &[Option<u32>]) -> bool {
-    for (resident, place) in (0..sheet.len()).zip(places) {
+pub fn has_places(sheet: &Assignment, programme_numbers: &[Option<u32>]) -> bool {
+    for (resident, programme_number) in (0..sheet.len()).zip(programme_numbers) {
         if resident < sheet.len()
-            && sheet.get(ResidentNo(resident)) != place.map(|p| ProgrammeNo(p))
+            && sheet.get(ResidentNo(resident))
+                != programme_number.map(|number| ProgrammeNo(number))
         {
             return false;
         }
     }
-    sheet.len() as usize == places.len()
+    sheet.len() as usize == programme_numbers.len()
 }

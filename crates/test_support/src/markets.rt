@@ -56,23 +56,23 @@ pub fn made_in_one_order(alloc: Global) -> Result<Instance, ModelFault> {
 // Adds these numbers of residents and of programmes. Each programme has one place.
 fn add_one_place_members(
     builder: &mut InstanceBuilder,
-    residents: u32,
-    programmes: u32,
+    resident_count: u32,
+    programme_count: u32,
 ) -> Result<(), ModelFault> {
-    for _ in 0..residents {
+    for _ in 0..resident_count {
         builder.add_resident()?;
     }
-    for _ in 0..programmes {
+    for _ in 0..programme_count {
         builder.add_programme(1)?;
     }
     Ok(())
 }
 
 /// Pairs of a programme with one place and a resident, who rank only each other.
-pub fn made_pairs(alloc: Global, pairs: u32) -> Result<Instance, ModelFault> {
+pub fn made_pairs(alloc: Global, pair_count: u32) -> Result<Instance, ModelFault> {
     let mut builder = InstanceBuilder::new(alloc);
-    add_one_place_members(&mut builder, pairs, pairs)?;
-    for pair in 0..pairs {
+    add_one_place_members(&mut builder, pair_count, pair_count)?;
+    for pair in 0..pair_count {
         builder.programme_list(ProgrammeNo(pair), &[ResidentNo(pair)])?;
         builder.resident_list(ResidentNo(pair), &[ProgrammeNo(pair)])?;
     }
@@ -81,25 +81,25 @@ pub fn made_pairs(alloc: Global, pairs: u32) -> Result<Instance, ModelFault> {
 
 /// A chain: the last programme displaces the first resident, whose programme then offers to the second resident and
 /// displaces that one from its programme, and so on.
-pub fn made_chain(alloc: Global, links: u32) -> Result<Instance, ModelFault> {
+pub fn made_chain(alloc: Global, link_count: u32) -> Result<Instance, ModelFault> {
     let mut builder = InstanceBuilder::new(alloc);
-    add_one_place_members(&mut builder, links, links.saturating_add(1))?;
-    for link in 0..links {
+    add_one_place_members(&mut builder, link_count, link_count.saturating_add(1))?;
+    for link in 0..link_count {
         let next_link = link.saturating_add(1);
         let residents = [ResidentNo(link), ResidentNo(next_link)];
-        let list = if next_link < links {
+        let ranked_residents = if next_link < link_count {
             &residents[..]
         } else {
             &residents[..1]
         };
-        builder.programme_list(ProgrammeNo(link), list)?;
+        builder.programme_list(ProgrammeNo(link), ranked_residents)?;
         let better_programme = ProgrammeNo(if link == 0 {
-            links
+            link_count
         } else {
             link.saturating_sub(1)
         });
         builder.resident_list(ResidentNo(link), &[better_programme, ProgrammeNo(link)])?;
     }
-    builder.programme_list(ProgrammeNo(links), &[ResidentNo(0)])?;
+    builder.programme_list(ProgrammeNo(link_count), &[ResidentNo(0)])?;
     builder.finish().map_err(|refused| refused.fault)
 }

@@ -118,8 +118,8 @@ fn open_residents<J: ExchangeIdentity, R: Wait + Copy>(
 {
     let mut puts = Vec::new(alloc);
     let mut desks = Vec::new(alloc);
-    for r in 0..inst.residents() {
-        let (put, desk) = resident_desk::<J, R>(alloc, rt, inst, ResidentNo(r))?;
+    for resident in 0..inst.residents() {
+        let (put, desk) = resident_desk::<J, R>(alloc, rt, inst, ResidentNo(resident))?;
         let (Ok(()), Ok(())) = (puts.push(put), desks.push(desk)) else {
             return Err(MailFault::Memory);
         };
@@ -170,8 +170,8 @@ fn open_programmes<J: ExchangeIdentity, R: Wait + Copy>(
 {
     let mut puts = Vec::new(alloc);
     let mut desks = Vec::new(alloc);
-    for p in 0..inst.programmes() {
-        let (put, desk) = programme_desk::<J, R>(alloc, rt, inst, ProgrammeNo(p))?;
+    for programme in 0..inst.programmes() {
+        let (put, desk) = programme_desk::<J, R>(alloc, rt, inst, ProgrammeNo(programme))?;
         let (Ok(()), Ok(())) = (puts.push(put), desks.push(desk)) else {
             return Err(MailFault::Memory);
         };

@@ -51,8 +51,8 @@ const LEFT_AFTER_NINETEEN: [MailLeft; 19] = [
 ];
 
 // Whether the core reports what is expected of the mailboxes after each event.
-fn tells_each(run: &mut Run, events: &[Event], wanted: &[MailLeft]) -> bool {
-    for (event, mail_left) in events.iter().zip(wanted) {
+fn tells_each(run: &mut Run, events: &[Event], expected_mail: &[MailLeft]) -> bool {
+    for (event, mail_left) in events.iter().zip(expected_mail) {
         if run.step_and_tell(*event) != Ok(*mail_left) {
             return false;
         }
@@ -62,10 +62,11 @@ fn tells_each(run: &mut Run, events: &[Event], wanted: &[MailLeft]) -> bool {
 
 // Whether a new core reports what is expected of the mailboxes after each of these events, and then refuses, for this
 // cause, that Y takes an offer of B.
-fn tells_all(alloc: Global, events: &[Event], wanted: &[MailLeft], cause: Refused) -> bool {
+fn tells_all(alloc: Global, events: &[Event], expected_mail: &[MailLeft], cause: Refused) -> bool {
     match new_run(alloc, TWO_PLACES, Capacity::Full) {
         Ok(mut run) => {
-            tells_each(&mut run, events, wanted) && run.step_and_tell(take(Y, B)) == Err(cause)
+            tells_each(&mut run, events, expected_mail)
+                && run.step_and_tell(take(Y, B)) == Err(cause)
         }
         Err(_) => false,
     }
@@ -86,12 +87,12 @@ fn tells_of_mail_that_waits(rt: HostRuntime) {
         answer(X, A, HOLD),
         offer(A, Y),
     ];
-    let wanted = [
+    let expected_mail = [
         RECEIVER_WAS_EMPTY,
         NOTHING_TO_REPORT,
         SENDER_HAS_MORE,
         EMPTY_AND_MORE,
         EMPTY_AND_MORE,
     ];
-    assert!(rt; tells_all(rt.alloc(), &events, &wanted, Refused::WrongFront));
+    assert!(rt; tells_all(rt.alloc(), &events, &expected_mail, Refused::WrongFront));
 }

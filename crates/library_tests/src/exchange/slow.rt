@@ -25,53 +25,53 @@ fn letter_if_same(member: u32, desk: u32, letter: Letter) -> Option<Letter> {
 }
 
 /// The item that an event adds to this list of a desk, or none.
-fn letter_of(list: MailList, desk: u32, event: &Event) -> Option<Letter> {
+fn letter_of(mail_list: MailList, desk: u32, event: &Event) -> Option<Letter> {
     match event {
         Event::Offer {
             programme,
             resident,
-        } => offer_letter(list, desk, programme.0, resident.0),
+        } => offer_letter(mail_list, desk, programme.0, resident.0),
         Event::Take {
             resident,
             programme,
-        } => take_letter(list, desk, resident.0, programme.0),
+        } => take_letter(mail_list, desk, resident.0, programme.0),
         Event::Answer {
             resident,
             programme,
             kind,
-        } => answer_letter(list, desk, (resident.0, programme.0), *kind),
+        } => answer_letter(mail_list, desk, (resident.0, programme.0), *kind),
         Event::Hear {
             programme,
             resident,
             kind,
-        } => hear_letter(list, desk, (programme.0, resident.0), *kind),
+        } => hear_letter(mail_list, desk, (programme.0, resident.0), *kind),
         Event::Close => None,
     }
 }
 
-fn offer_letter(list: MailList, desk: u32, programme: u32, resident: u32) -> Option<Letter> {
-    match list {
+fn offer_letter(mail_list: MailList, desk: u32, programme: u32, resident: u32) -> Option<Letter> {
+    match mail_list {
         MailList::OffersOf => letter_if_same(programme, desk, (resident, None)),
         MailList::OffersTo => letter_if_same(resident, desk, (programme, None)),
         _ => None,
     }
 }
 
-fn take_letter(list: MailList, desk: u32, resident: u32, programme: u32) -> Option<Letter> {
-    match list {
+fn take_letter(mail_list: MailList, desk: u32, resident: u32, programme: u32) -> Option<Letter> {
+    match mail_list {
         MailList::Takes => letter_if_same(resident, desk, (programme, None)),
         _ => None,
     }
 }
 
 fn answer_letter(
-    list: MailList,
+    mail_list: MailList,
     desk: u32,
     resident_and_programme: (u32, u32),
     kind: AnswerKind,
 ) -> Option<Letter> {
     let (resident, programme) = resident_and_programme;
-    match list {
+    match mail_list {
         MailList::AnswersOf => letter_if_same(resident, desk, (programme, Some(kind))),
         MailList::AnswersTo => letter_if_same(programme, desk, (resident, Some(kind))),
         _ => None,
@@ -79,31 +79,31 @@ fn answer_letter(
 }
 
 fn hear_letter(
-    list: MailList,
+    mail_list: MailList,
     desk: u32,
     programme_and_resident: (u32, u32),
     kind: AnswerKind,
 ) -> Option<Letter> {
     let (programme, resident) = programme_and_resident;
-    match list {
+    match mail_list {
         MailList::Hears => letter_if_same(programme, desk, (resident, Some(kind))),
         _ => None,
     }
 }
 
 /// How many items this list of a desk has.
-fn letter_count(list: MailList, desk: u32, journal: &[Event]) -> usize {
+fn letter_count(mail_list: MailList, desk: u32, journal: &[Event]) -> usize {
     journal
         .iter()
-        .filter(|event| letter_of(list, desk, event).is_some())
+        .filter(|event| letter_of(mail_list, desk, event).is_some())
         .count()
 }
 
 /// The item at index `index` in this list of a desk.
-fn letter_at(list: MailList, desk: u32, journal: &[Event], index: usize) -> Option<Letter> {
+fn letter_at(mail_list: MailList, desk: u32, journal: &[Event], index: usize) -> Option<Letter> {
     let mut letters_before = index;
     for event in journal {
-        if let Some(letter) = letter_of(list, desk, event) {
+        if let Some(letter) = letter_of(mail_list, desk, event) {
             if letters_before == 0 {
                 return Some(letter);
             }
@@ -113,18 +113,18 @@ fn letter_at(list: MailList, desk: u32, journal: &[Event], index: usize) -> Opti
     None
 }
 
-fn place_on(ranking: &[ProgrammeNo], programme: u32) -> usize {
+fn rank_on(ranking: &[ProgrammeNo], programme: u32) -> usize {
     let index = ranking.iter().position(|ranked| ranked.0 == programme);
     index.unwrap_or(ranking.len())
 }
 
-/// The place on the ranking of the best programme whose offer the resident took, or the ranking's length if the
+/// The rank of the best programme whose offer the resident took, or the ranking's length if the
 /// resident took no offer.
-fn best_place(ranking: &[ProgrammeNo], resident: ResidentNo, journal: &[Event]) -> usize {
+fn best_rank(ranking: &[ProgrammeNo], resident: ResidentNo, journal: &[Event]) -> usize {
     let mut best_so_far = ranking.len();
     for event in journal {
         if let Some((programme, _)) = letter_of(MailList::Takes, resident.0, event) {
-            best_so_far = best_so_far.min(place_on(ranking, programme));
+            best_so_far = best_so_far.min(rank_on(ranking, programme));
         }
     }
     best_so_far
@@ -137,15 +137,15 @@ fn answers_called(
     earlier_events: &[Event],
     programme: u32,
 ) -> [Option<Letter>; 2] {
-    let best_so_far = best_place(ranking, resident, earlier_events);
-    if place_on(ranking, programme) >= best_so_far {
+    let best_so_far = best_rank(ranking, resident, earlier_events);
+    if rank_on(ranking, programme) >= best_so_far {
         return [Some((programme, Some(AnswerKind::Decline))), None];
     }
-    let release = match ranking.get(best_so_far) {
+    let release_letter = match ranking.get(best_so_far) {
         Some(held_programme) => Some((held_programme.0, Some(AnswerKind::Release))),
         None => None,
     };
-    [Some((programme, Some(AnswerKind::Hold))), release]
+    [Some((programme, Some(AnswerKind::Hold))), release_letter]
 }
 
 /// The first answer that the resident owes and has not given.
@@ -293,10 +293,10 @@ fn offer_refusal(
 }
 
 /// Why an event's item isn't the item in front, or none if it is.
-fn front_fault(front: Option<Letter>, wanted: Letter) -> Option<Refused> {
-    match front {
+fn front_fault(front_letter: Option<Letter>, expected_letter: Letter) -> Option<Refused> {
+    match front_letter {
         None => Some(Refused::NothingWaiting),
-        Some(front) if front == wanted => None,
+        Some(front_letter) if front_letter == expected_letter => None,
         Some(_) => Some(Refused::WrongFront),
     }
 }
@@ -313,13 +313,13 @@ fn take_refusal(
     if first_answer_due(inst.list_of_resident(resident), resident, journal).is_some() {
         return Some(Refused::AnswerDue);
     }
-    let front = letter_at(
+    let front_letter = letter_at(
         MailList::OffersTo,
         resident.0,
         journal,
         letter_count(MailList::Takes, resident.0, journal),
     );
-    front_fault(front, (programme.0, None))
+    front_fault(front_letter, (programme.0, None))
 }
 
 fn answer_refusal(
@@ -354,13 +354,13 @@ fn hear_refusal(
     if is_strange(inst, programme, heard_answer.0) {
         return Some(Refused::NoSuchDesk);
     }
-    let front = letter_at(
+    let front_letter = letter_at(
         MailList::AnswersTo,
         programme.0,
         journal,
         letter_count(MailList::Hears, programme.0, journal),
     );
-    front_fault(front, (heard_answer.0.0, Some(heard_answer.1)))
+    front_fault(front_letter, (heard_answer.0.0, Some(heard_answer.1)))
 }
 
 fn first_pending(inst: &Instance, journal: &[Event]) -> Option<Pending> {

@@ -150,16 +150,16 @@ fn agrees_once(run: &mut Run, cap: Capacity, journal: &mut Vec<Event>, event: Ev
     true
 }
 
-/// Whether the core and the slow definitions agree about each of `turns` events that are tried one after another.
+/// Whether the core and the slow definitions agree about each of `event_count` events tried one after another.
 fn agrees_along(
     numbers: &mut RandomNumbers,
     alloc: Global,
     run: &mut Run,
     cap: Capacity,
-    turns: u32,
+    event_count: u32,
 ) -> bool {
     let mut journal = Vec::new(alloc);
-    for _ in 0..turns {
+    for _ in 0..event_count {
         let event = next_event(numbers, run);
         if !agrees_once(run, cap, &mut journal, event) {
             return false;
@@ -168,14 +168,14 @@ fn agrees_along(
     true
 }
 
-/// Whether the core and the slow definitions agree about each of `turns` events that are tried on a random instance.
-pub(super) fn agrees(alloc: Global, seed: u32, cap: Capacity, turns: u32) -> bool {
+/// Whether the core and the slow definitions agree about each of `event_count` events tried on a random instance.
+pub(super) fn agrees(alloc: Global, seed: u32, cap: Capacity, event_count: u32) -> bool {
     let mut numbers = RandomNumbers { last_number: seed };
     let Ok(inst) = random_instance(&mut numbers, alloc) else {
         return false;
     };
     match Run::new(alloc, inst, cap) {
-        Ok(mut run) => agrees_along(&mut numbers, alloc, &mut run, cap, turns),
+        Ok(mut run) => agrees_along(&mut numbers, alloc, &mut run, cap, event_count),
         Err(_) => false,
     }
 }

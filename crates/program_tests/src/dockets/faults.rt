@@ -178,11 +178,14 @@ fn faults_among_records(rt: HostRuntime) -> Result<(), Fail> {
 
 #[test]
 fn faults_without_a_record(rt: HostRuntime) -> Result<(), Fail> {
-    for (fault, text) in [
+    for (fault, fault_text) in [
         (DocketFault::Memory, "out of memory"),
         (DocketFault::Write, "the output could not be written"),
     ] {
-        assert!(rt; has_outcome(rt.alloc(), Err(fault), text)?, "{text}");
+        assert!(rt;
+            has_outcome(rt.alloc(), Err(fault), fault_text)?,
+            "{fault_text}"
+        );
     }
     Ok(())
 }

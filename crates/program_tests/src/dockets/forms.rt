@@ -52,8 +52,8 @@ fn is_small_instance(instance: &Instance) -> bool {
 }
 
 // Whether the docket that was read is the docket of `SMALL_DOCKET`.
-fn is_small_docket(answer: Result<Docket, DocketFault>) -> bool {
-    match answer {
+fn is_small_docket(reading: Result<Docket, DocketFault>) -> bool {
+    match reading {
         Ok(docket) => has_small_names(&docket) && is_small_instance(docket.instance()),
         Err(_) => false,
     }
@@ -110,10 +110,10 @@ const BYTES_THAT_ARE_NO_TEXT: [(&[u8], &str); 5] = [
 #[test]
 fn fields_that_are_no_names(rt: HostRuntime) -> Result<(), Fail> {
     assert!(rt; first_wrong_line(rt.alloc(), FIELD_FORMS)? == None);
-    for (input, wanted) in BYTES_THAT_ARE_NO_TEXT {
+    for (input, outcome) in BYTES_THAT_ARE_NO_TEXT {
         assert!(rt;
-            has_outcome(rt.alloc(), read_docket(&rt, rt.alloc(), input), wanted)?,
-            "{wanted}"
+            has_outcome(rt.alloc(), read_docket(&rt, rt.alloc(), input), outcome)?,
+            "{outcome}"
         );
     }
     Ok(())
@@ -134,14 +134,17 @@ const READER_CUTS: [(usize, u32); 9] = [
 
 #[test]
 fn a_reader_that_fails(rt: HostRuntime) {
-    for (good_bytes, place) in READER_CUTS {
-        let answer = read_slowly(rt.alloc(), SMALL_DOCKET, good_bytes);
+    for (good_bytes, record_number) in READER_CUTS {
+        let reading = read_slowly(rt.alloc(), SMALL_DOCKET, good_bytes);
         assert!(rt;
-            answer.err() == Some(DocketFault::Read { place }),
+            reading.err()
+                == Some(DocketFault::Read {
+                    place: record_number
+                }),
             "{good_bytes}"
         );
     }
     // a fault in a record before the reader's failure is reported first
-    let answer = read_slowly(rt.alloc(), "Q,a,1\nZ\nQ,b,1\n", 9);
-    assert!(rt; answer.err() == Some(DocketFault::UnknownKind { place: 2 }));
+    let reading = read_slowly(rt.alloc(), "Q,a,1\nZ\nQ,b,1\n", 9);
+    assert!(rt; reading.err() == Some(DocketFault::UnknownKind { place: 2 }));
 }

@@ -20,60 +20,66 @@ fn numbered_records(
     record_count: u32,
     suffix: &str,
 ) -> Result<String, AllocError> {
-    let mut text = String::new(alloc);
-    push_all_numbered(&mut text, alloc, prefix, record_count, suffix)?;
-    Ok(text)
+    let mut docket = String::new(alloc);
+    push_all_numbered(&mut docket, alloc, prefix, record_count, suffix)?;
+    Ok(docket)
 }
 
 // A docket of ten programmes and 20,000 residents who all rank each other. The records of the last resident are in
 // `last_records`.
 fn ranked_docket(alloc: Global, last_records: &str) -> Result<String, AllocError> {
-    let mut text = numbered_records(alloc, "Q,p", 10, ",1\n")?;
-    push_lists(&mut text, alloc)?;
-    push_all_numbered(&mut text, alloc, "R,r", 19_999, TEN_RANKED)?;
-    text.push_str(last_records)?;
-    Ok(text)
+    let mut docket = numbered_records(alloc, "Q,p", 10, ",1\n")?;
+    push_lists(&mut docket, alloc)?;
+    push_all_numbered(&mut docket, alloc, "R,r", 19_999, TEN_RANKED)?;
+    docket.push_str(last_records)?;
+    Ok(docket)
 }
 
 // A docket of this many records: the row of a capacity, and then closes.
 fn docket_of_closes(alloc: Global, record_count: u32) -> Result<String, AllocError> {
-    let mut text = String::new(alloc);
-    text.push_str("C,full\n")?;
+    let mut docket = String::new(alloc);
+    docket.push_str("C,full\n")?;
     for _ in 1..record_count {
-        text.push_str("E,close\n")?;
+        docket.push_str("E,close\n")?;
     }
-    Ok(text)
+    Ok(docket)
 }
 
 // A docket with the greatest number of programmes, and with the records in `last_records`.
 fn most_programmes_and(alloc: Global, last_records: &str) -> Result<String, AllocError> {
-    let mut text = numbered_records(alloc, "Q,p", 2_000, ",10000\n")?;
-    text.push_str(last_records)?;
-    Ok(text)
+    let mut docket = numbered_records(alloc, "Q,p", 2_000, ",10000\n")?;
+    docket.push_str(last_records)?;
+    Ok(docket)
 }
 
 #[test]
 fn programmes(rt: HostRuntime) -> Result<(), Fail> {
     // the quota is tested after the number of programmes, and a repeated name before both
-    for (last_records, wanted) in [
+    for (last_records, outcome) in [
         ("", "read"),
         ("Q,q,10001\n", "record 2001: more than 2000 programmes"),
         ("Q,p0,10001\n", "record 2001: declared twice"),
     ] {
-        let text = most_programmes_and(rt.alloc(), last_records)?;
-        assert!(rt; reads_as(rt.alloc(), &[text.as_str()], wanted)?, "{wanted}");
+        let docket = most_programmes_and(rt.alloc(), last_records)?;
+        assert!(rt;
+            reads_as(rt.alloc(), &[docket.as_str()], outcome)?,
+            "{outcome}"
+        );
     }
     Ok(())
 }
 
 #[test]
 fn residents(rt: HostRuntime) -> Result<(), Fail> {
-    for (record_count, wanted) in [
+    for (record_count, outcome) in [
         (20_000, "read"),
         (20_001, "record 20001: more than 20000 residents"),
     ] {
-        let text = numbered_records(rt.alloc(), "R,r", record_count, "\n")?;
-        assert!(rt; reads_as(rt.alloc(), &[text.as_str()], wanted)?, "{wanted}");
+        let docket = numbered_records(rt.alloc(), "R,r", record_count, "\n")?;
+        assert!(rt;
+            reads_as(rt.alloc(), &[docket.as_str()], outcome)?,
+            "{outcome}"
+        );
     }
     Ok(())
 }
@@ -88,8 +94,8 @@ fn acceptable_pairs(alloc: Global, input: &str) -> Option<u32> {
 
 #[test]
 fn most_pairs(rt: HostRuntime) -> Result<(), Fail> {
-    let text = ranked_docket(rt.alloc(), "R,r19999,p9,p8,p7,p6,p5,p4,p3,p2,p1,p0\n")?;
-    assert!(rt; acceptable_pairs(rt.alloc(), text.as_str()) == Some(200_000));
+    let docket = ranked_docket(rt.alloc(), "R,r19999,p9,p8,p7,p6,p5,p4,p3,p2,p1,p0\n")?;
+    assert!(rt; acceptable_pairs(rt.alloc(), docket.as_str()) == Some(200_000));
     Ok(())
 }
 
@@ -99,35 +105,35 @@ const ELEVENTH: &str =
 
 #[test]
 fn one_pair_too_many(rt: HostRuntime) -> Result<(), Fail> {
-    let text = ranked_docket(rt.alloc(), ELEVENTH)?;
-    let wanted = "record 20023: more than 200000 acceptable pairs";
-    assert!(rt; reads_as(rt.alloc(), &[text.as_str()], wanted)?);
+    let docket = ranked_docket(rt.alloc(), ELEVENTH)?;
+    let outcome = "record 20023: more than 200000 acceptable pairs";
+    assert!(rt; reads_as(rt.alloc(), &[docket.as_str()], outcome)?);
     Ok(())
 }
 
 #[test]
 fn quotas(rt: HostRuntime) -> Result<(), Fail> {
-    for (input, wanted) in [
+    for (input, outcome) in [
         ("Q,a,10000\n", "read"),
         ("Q,a,10001\n", "record 1: quota over 10000"),
     ] {
-        assert!(rt; reads_as(rt.alloc(), &[input], wanted)?, "{wanted}");
+        assert!(rt; reads_as(rt.alloc(), &[input], outcome)?, "{outcome}");
     }
     Ok(())
 }
 
 #[test]
 fn most_records(rt: HostRuntime) -> Result<(), Fail> {
-    let text = docket_of_closes(rt.alloc(), 2_000_000)?;
-    assert!(rt; reads_as(rt.alloc(), &[text.as_str()], "read")?);
+    let docket = docket_of_closes(rt.alloc(), 2_000_000)?;
+    assert!(rt; reads_as(rt.alloc(), &[docket.as_str()], "read")?);
     Ok(())
 }
 
 #[test]
 fn one_record_too_many(rt: HostRuntime) -> Result<(), Fail> {
-    let text = docket_of_closes(rt.alloc(), 2_000_001)?;
-    let wanted = "record 2000001: more than 2000000 records";
-    assert!(rt; reads_as(rt.alloc(), &[text.as_str()], wanted)?);
+    let docket = docket_of_closes(rt.alloc(), 2_000_001)?;
+    let outcome = "record 2000001: more than 2000000 records";
+    assert!(rt; reads_as(rt.alloc(), &[docket.as_str()], outcome)?);
     Ok(())
 }
 
@@ -166,10 +172,10 @@ fn docket_beyond(alloc: Global, limit: usize) -> Result<String, AllocError> {
 #[test]
 fn none_is_matched_beyond(rt: HostRuntime) -> Result<(), Fail> {
     for (limit, fault) in FAULTS_BEYOND.iter().enumerate() {
-        let text = docket_beyond(rt.alloc(), limit)?;
-        let expected = (Err(ServeFault::Docket(*fault)), "", 3);
+        let docket = docket_beyond(rt.alloc(), limit)?;
+        let outcome = (Err(ServeFault::Docket(*fault)), "", 3);
         assert!(rt;
-            serves(rt, rt.alloc(), MATCH, &[text.as_str()], expected)?,
+            serves(rt, rt.alloc(), MATCH, &[docket.as_str()], outcome)?,
             "{fault}"
         );
     }

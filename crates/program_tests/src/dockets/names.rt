@@ -27,7 +27,7 @@ fn names_alike_in_front(rt: HostRuntime) -> Result<(), Fail> {
 
 #[test]
 fn no_randomness(rt: HostRuntime) -> Result<(), Fail> {
-    let answer = read_docket(&NoRandomness, rt.alloc(), SMALL_DOCKET.as_bytes());
-    assert!(rt; has_outcome(rt.alloc(), answer, "record 1: the input could not be read")?);
+    let reading = read_docket(&NoRandomness, rt.alloc(), SMALL_DOCKET.as_bytes());
+    assert!(rt; has_outcome(rt.alloc(), reading, "record 1: the input could not be read")?);
     Ok(())
 }

@@ -54,11 +54,11 @@ const READING_FAULTS: [(&[&str], DocketFault); 17] = [
 
 #[test]
 fn tells_faults_of_reading(rt: HostRuntime) -> Result<(), Fail> {
-    for (texts, fault) in READING_FAULTS {
+    for (docket, fault) in READING_FAULTS {
         for order in [MATCH, Order::Audit, Order::Replay] {
-            let expected = (Err(ServeFault::Docket(fault)), "", 3);
+            let outcome = (Err(ServeFault::Docket(fault)), "", 3);
             assert!(rt;
-                serves_both(rt, rt.alloc(), order, texts, expected)?,
+                serves_both(rt, rt.alloc(), order, docket, outcome)?,
                 "{fault}"
             );
         }
@@ -101,21 +101,21 @@ const CUT_DOCKETS: [(&[&str], DocketFault); 6] = [
 
 #[test]
 fn cuts_of_version_2(rt: HostRuntime) -> Result<(), Fail> {
-    for (texts, fault) in CUT_DOCKETS {
+    for (docket, fault) in CUT_DOCKETS {
         for order in [MATCH, Order::Audit, Order::Replay] {
-            let expected = (Err(ServeFault::Docket(fault)), "", 3);
-            assert!(rt; serves(rt, rt.alloc(), order, texts, expected)?, "{fault}");
+            let outcome = (Err(ServeFault::Docket(fault)), "", 3);
+            assert!(rt; serves(rt, rt.alloc(), order, docket, outcome)?, "{fault}");
         }
     }
-    for (texts, sheet) in [
+    for (docket, sheet) in [
         (&["V,2"] as &[&str], ""),
         (
             &[VERSION_2, SMALL_DOCKET, "W,P,b"],
             "M,x,a\nU,y\nF,a,1,1\nF,b,0,1\n",
         ),
     ] {
-        let expected = (Ok(Status::Closed), sheet, 0);
-        assert!(rt; serves(rt, rt.alloc(), MATCH, texts, expected)?, "{sheet}");
+        let outcome = (Ok(Status::Closed), sheet, 0);
+        assert!(rt; serves(rt, rt.alloc(), MATCH, docket, outcome)?, "{sheet}");
     }
     Ok(())
 }

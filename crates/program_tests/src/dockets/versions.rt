@@ -76,9 +76,9 @@ fn agrees_on_resident(instance: &Instance, resident: ResidentNo, is_withdrawn: b
 // Whether exactly these members are withdrawn if these rows stand at the end of the small docket of
 // version 2.
 fn withdraws(alloc: Global, rows: &str, withdrawn_members: [bool; 4]) -> Result<bool, AllocError> {
-    let text = joined(alloc, &[VERSION_2, SMALL_DOCKET, rows])?;
+    let docket_text = joined(alloc, &[VERSION_2, SMALL_DOCKET, rows])?;
     let [a_withdrawn, b_withdrawn, x_withdrawn, y_withdrawn] = withdrawn_members;
-    match read(alloc, text.as_str()) {
+    match read(alloc, docket_text.as_str()) {
         Ok(docket) => Ok(
             agrees_on_programme(docket.instance(), A, a_withdrawn)
                 && agrees_on_programme(docket.instance(), B, b_withdrawn)

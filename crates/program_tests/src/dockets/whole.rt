@@ -27,9 +27,9 @@ fn is_whole(docket: &Docket) -> bool {
 }
 
 // Whether the docket in these texts is read with each part as expected.
-fn reads_whole(alloc: Global, texts: &[&str]) -> Result<bool, AllocError> {
-    let text = joined(alloc, texts)?;
-    match read(alloc, text.as_str()) {
+fn reads_whole(alloc: Global, docket: &[&str]) -> Result<bool, AllocError> {
+    let docket_text = joined(alloc, docket)?;
+    match read(alloc, docket_text.as_str()) {
         Ok(docket) => Ok(is_whole(&docket)),
         Err(_) => Ok(false),
     }
@@ -49,11 +49,11 @@ fn parts(alloc: Global, input: &str) -> Option<(Option<u32>, bool)> {
 #[test]
 fn reads_a_docket_whole(rt: HostRuntime) -> Result<(), Fail> {
     // the rows of the three parts, in two different orders
-    for texts in [
+    for docket in [
         [SMALL_DOCKET, FULL_CAPACITY, SMALL_JOURNAL, OTHER_SHEET],
         [OTHER_SHEET, FULL_CAPACITY, SMALL_JOURNAL, SMALL_DOCKET],
     ] {
-        assert!(rt; reads_whole(rt.alloc(), texts.as_slice())?);
+        assert!(rt; reads_whole(rt.alloc(), docket.as_slice())?);
     }
     Ok(())
 }
@@ -61,13 +61,13 @@ fn reads_a_docket_whole(rt: HostRuntime) -> Result<(), Fail> {
 #[test]
 fn reads_what_a_docket_lacks(rt: HostRuntime) {
     // if no member is declared, the sheet has no rows
-    for (input, wanted) in [
+    for (input, expected_parts) in [
         (SMALL_DOCKET, (None, false)),
         ("", (Some(0), false)),
         ("C,7\n", (Some(0), true)),
         ("Q,a,1\nC,7\n", (None, true)),
         ("U,x\nR,x\n", (Some(1), false)),
     ] {
-        assert!(rt; parts(rt.alloc(), input) == Some(wanted), "{input}");
+        assert!(rt; parts(rt.alloc(), input) == Some(expected_parts), "{input}");
     }
 }

@@ -95,9 +95,9 @@ fn has_journal(alloc: Global, input: &str, capacity: Capacity, events: &[Event])
 
 // Whether the journal in a docket is written as this text.
 fn writes_journal(alloc: Global, input: &str, journal: &str) -> bool {
-    let mut output = Vec::new(alloc);
-    read_and_write_journal(alloc, input, &mut output) == Ok(())
-        && output.as_slice() == journal.as_bytes()
+    let mut written_bytes = Vec::new(alloc);
+    read_and_write_journal(alloc, input, &mut written_bytes) == Ok(())
+        && written_bytes.as_slice() == journal.as_bytes()
 }
 
 // Whether a journal is read both before its members' rows and after them, and is written unchanged.
@@ -109,10 +109,10 @@ fn keeps_journal(
     events: &[Event],
 ) -> Result<bool, AllocError> {
     let journal = joined(alloc, rows)?;
-    for texts in [[journal.as_str(), members], [members, journal.as_str()]] {
-        let text = joined(alloc, &texts)?;
-        if !has_journal(alloc, text.as_str(), capacity, events)
-            || !writes_journal(alloc, text.as_str(), journal.as_str())
+    for docket in [[journal.as_str(), members], [members, journal.as_str()]] {
+        let docket_text = joined(alloc, &docket)?;
+        if !has_journal(alloc, docket_text.as_str(), capacity, events)
+            || !writes_journal(alloc, docket_text.as_str(), journal.as_str())
         {
             return Ok(false);
         }
@@ -191,19 +191,19 @@ fn keeps_journals(rt: HostRuntime) -> Result<(), Fail> {
 
 // Whether the docket with this text has a journal by this number of workers, with these workers of the
 // events.
-fn has_workers(alloc: Global, input: &str, workers: u32, who: &[u8]) -> bool {
+fn has_workers(alloc: Global, input: &str, worker_count: u32, event_workers: &[u8]) -> bool {
     match read(alloc, input) {
-        Ok(docket) => is_by_workers(&docket, workers, who),
+        Ok(docket) => is_by_workers(&docket, worker_count, event_workers),
         Err(_) => false,
     }
 }
 
 // Whether the docket has a journal by this number of workers, with these workers of the events.
-fn is_by_workers(docket: &Docket, workers: u32, who: &[u8]) -> bool {
+fn is_by_workers(docket: &Docket, worker_count: u32, event_workers: &[u8]) -> bool {
     match docket.journal() {
         Some(journal) => match &journal.by {
-            Some(journal_workers) => journal_workers.workers == workers
-                && journal_workers.who.as_slice() == who,
+            Some(journal_workers) => journal_workers.workers == worker_count
+                && journal_workers.who.as_slice() == event_workers,
             None => false,
         },
         None => false,
@@ -215,13 +215,13 @@ fn keeps_journal_by_worker(
     alloc: Global,
     members: &str,
     journal: &str,
-    workers: u32,
-    who: &[u8],
+    worker_count: u32,
+    event_workers: &[u8],
 ) -> Result<bool, AllocError> {
-    let text = joined(alloc, &[members, journal])?;
+    let docket_text = joined(alloc, &[members, journal])?;
     Ok(
-        has_workers(alloc, text.as_str(), workers, who)
-            && writes_journal(alloc, text.as_str(), journal),
+        has_workers(alloc, docket_text.as_str(), worker_count, event_workers)
+            && writes_journal(alloc, docket_text.as_str(), journal),
     )
 }
 
@@ -239,9 +239,17 @@ fn keeps_journals_by_worker(rt: HostRuntime) -> Result<(), Fail> {
         ("", &["C,1024,8\n", "E,close,7\nE,close,3\n"], 8, &[7, 3]),
         ("", &["C,1,8\n"], 8, &[]),
     ];
-    for (members, rows, workers, who) in cases {
+    for (members, rows, worker_count, event_workers) in cases {
         let journal = joined(alloc, rows)?;
-        assert!(rt; keeps_journal_by_worker(alloc, members, journal.as_str(), workers, who)?);
+        assert!(rt;
+            keeps_journal_by_worker(
+                alloc,
+                members,
+                journal.as_str(),
+                worker_count,
+                event_workers
+            )?
+        );
     }
     Ok(())
 }
@@ -249,9 +257,9 @@ fn keeps_journals_by_worker(rt: HostRuntime) -> Result<(), Fail> {
 #[test]
 fn writes_sheets(rt: HostRuntime) {
     for (input, sheet) in [("", ""), (SHUFFLED, OTHER_SHEET), (CROWDED, CROWDED_SHEET)] {
-        let mut output = Vec::new(rt.alloc());
-        assert!(rt; read_and_write_sheet(rt.alloc(), input, &mut output) == Ok(()));
-        assert!(rt; output.as_slice() == sheet.as_bytes(), "{sheet}");
+        let mut written_bytes = Vec::new(rt.alloc());
+        assert!(rt; read_and_write_sheet(rt.alloc(), input, &mut written_bytes) == Ok(()));
+        assert!(rt; written_bytes.as_slice() == sheet.as_bytes(), "{sheet}");
     }
 }
 
@@ -260,18 +268,18 @@ fn a_writer_that_fails(rt: HostRuntime) -> Result<(), Fail> {
     let alloc = rt.alloc();
     let write_failed = Err(DocketFault::Write);
     // the writer accepts three bytes in each call; the sheet has 28 bytes, and the journal 129
-    for (good_calls, answer) in [(0, write_failed), (9, write_failed), (10, Ok(()))] {
+    for (good_calls, expected_result) in [(0, write_failed), (9, write_failed), (10, Ok(()))] {
         let mut writer = CutWriter::new(Vec::new(alloc), good_calls);
         assert!(rt;
-            read_and_write_sheet(alloc, SHUFFLED, &mut writer) == answer,
+            read_and_write_sheet(alloc, SHUFFLED, &mut writer) == expected_result,
             "{good_calls}"
         );
     }
-    let text = joined(alloc, &[SMALL_DOCKET, FULL_CAPACITY, SMALL_JOURNAL])?;
-    for (good_calls, answer) in [(0, write_failed), (42, write_failed), (43, Ok(()))] {
+    let docket_text = joined(alloc, &[SMALL_DOCKET, FULL_CAPACITY, SMALL_JOURNAL])?;
+    for (good_calls, expected_result) in [(0, write_failed), (42, write_failed), (43, Ok(()))] {
         let mut writer = CutWriter::new(Vec::new(alloc), good_calls);
         assert!(rt;
-            read_and_write_journal(alloc, text.as_str(), &mut writer) == answer,
+            read_and_write_journal(alloc, docket_text.as_str(), &mut writer) == expected_result,
             "{good_calls}"
         );
     }
@@ -280,15 +288,15 @@ fn a_writer_that_fails(rt: HostRuntime) -> Result<(), Fail> {
 
 // What a writer gets of a row with two fields and of a programme's row.
 fn gathered_rows(alloc: Global, docket: &Docket) -> Result<Vec<u8>, DocketFault> {
-    let mut output = Vec::new(alloc);
+    let mut written_bytes = Vec::new(alloc);
     let mut room = room_for_rows(alloc)?;
-    let mut rows = RowWriter::new(&mut output, &mut room);
+    let mut rows = RowWriter::new(&mut written_bytes, &mut room);
     rows.push(&[b"U", b"x"])?;
     if A.0 < docket.instance().programmes() {
         push_programme(&mut rows, docket, b"O", A, 2)?;
     }
     rows.send()?;
-    Ok(output)
+    Ok(written_bytes)
 }
 
 // What `gathered_rows` gives for the docket with this text.

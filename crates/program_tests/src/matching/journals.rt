@@ -18,11 +18,11 @@ pub(super) fn match_output<H: Threads + Wait + RandomSource + Sync + Send + Copy
     rt: H,
     alloc: Global,
     order: Order,
-    text: &str,
+    docket_text: &str,
 ) -> Option<Vec<u8>> {
-    let mut output = Vec::new(alloc);
-    match serve(rt, alloc, order, text.as_bytes(), &mut output) {
-        Ok(Status::Closed) => Some(output),
+    let mut written_bytes = Vec::new(alloc);
+    match serve(rt, alloc, order, docket_text.as_bytes(), &mut written_bytes) {
+        Ok(Status::Closed) => Some(written_bytes),
         _ => None,
     }
 }
@@ -36,9 +36,9 @@ fn tells<H: Threads + Wait + RandomSource + Sync + Send + Copy>(
     wanted_status: Status,
     wanted_text: &str,
 ) -> bool {
-    let mut output = Vec::new(alloc);
-    let status = serve(rt, alloc, order, docket, &mut output);
-    status == Ok(wanted_status) && output.as_slice() == wanted_text.as_bytes()
+    let mut written_bytes = Vec::new(alloc);
+    let status = serve(rt, alloc, order, docket, &mut written_bytes);
+    status == Ok(wanted_status) && written_bytes.as_slice() == wanted_text.as_bytes()
 }
 
 /// Whether a written sheet and journal, appended to these members' rows, are read as a stable sheet and a good
@@ -47,11 +47,11 @@ pub(super) fn is_good<H: Threads + Wait + RandomSource + Sync + Send + Copy>(
     rt: H,
     alloc: Global,
     members: &str,
-    written: &[u8],
+    new_rows: &[u8],
 ) -> Result<bool, AllocError> {
     let mut docket = members.as_bytes().to_vec(alloc)?;
-    docket.extend_from_slice(written)?;
-    let event_count = rows_starting(written, "E,");
+    docket.extend_from_slice(new_rows)?;
+    let event_count = rows_starting(new_rows, "E,");
     let good_row = format!(in alloc; "G,{event_count}\n")?;
     let docket = docket.as_slice();
     Ok(
@@ -81,19 +81,19 @@ const WITHDRAWN_DOCKET: &str =
 fn its_journal_is_good(rt: HostRuntime) -> Result<(), Fail> {
     let market = four_hundred_pairs(rt.alloc())?;
     for order in [MATCH_WITH_JOURNAL, NARROW_MATCH_WITH_JOURNAL] {
-        for text in [
+        for docket_text in [
             QUOTAS_DOCKET,
             SMALL_DOCKET,
             CHAIN_DOCKET,
             WITHDRAWN_DOCKET,
             market.as_str(),
         ] {
-            let Some(written) = match_output(rt, rt.alloc(), order, text) else {
+            let Some(new_rows) = match_output(rt, rt.alloc(), order, docket_text) else {
                 return Err(Fail::from("the match isn't closed"));
             };
             assert!(rt;
-                is_good(rt, rt.alloc(), text, written.as_slice())?,
-                "{text}"
+                is_good(rt, rt.alloc(), docket_text, new_rows.as_slice())?,
+                "{docket_text}"
             );
         }
     }
@@ -116,8 +116,8 @@ const USED_DOCKETS: [&[&str]; 5] = [
 ];
 
 // Whether the text is exactly the sheet of `SMALL_DOCKET`, the row of the capacity, and the nine events of an exchange.
-fn is_new_output(written: &[u8], capacity_row: &str) -> bool {
-    let (sheet, journal) = written.split_at(written.len().min(SMALL_SHEET.len()));
+fn is_new_output(new_rows: &[u8], capacity_row: &str) -> bool {
+    let (sheet, journal) = new_rows.split_at(new_rows.len().min(SMALL_SHEET.len()));
     sheet == SMALL_SHEET.as_bytes()
         && journal.starts_with(capacity_row.as_bytes())
         && rows_starting(journal, "C,") == 1
@@ -131,15 +131,18 @@ fn what_it_read_is_not_written(rt: HostRuntime) -> Result<(), Fail> {
         (MATCH_WITH_JOURNAL, "C,full\n"),
         (NARROW_MATCH_WITH_JOURNAL, "C,1\n"),
     ] {
-        for texts in USED_DOCKETS {
-            let text = joined(rt.alloc(), texts)?;
-            let Some(written) = match_output(rt, rt.alloc(), order, text.as_str()) else {
+        for used_docket in USED_DOCKETS {
+            let docket_text = joined(rt.alloc(), used_docket)?;
+            let Some(new_rows) = match_output(rt, rt.alloc(), order, docket_text.as_str()) else {
                 return Err(Fail::from("the match isn't closed"));
             };
-            assert!(rt; is_new_output(written.as_slice(), capacity_row), "{text}");
             assert!(rt;
-                is_good(rt, rt.alloc(), SMALL_DOCKET, written.as_slice())?,
-                "{text}"
+                is_new_output(new_rows.as_slice(), capacity_row),
+                "{docket_text}"
+            );
+            assert!(rt;
+                is_good(rt, rt.alloc(), SMALL_DOCKET, new_rows.as_slice())?,
+                "{docket_text}"
             );
         }
     }

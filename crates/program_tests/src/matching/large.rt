@@ -16,15 +16,15 @@ use test_gates::gates::{Firm, Held};
 fn match_through_gate<H: Threads + Wait + RandomSource + Sync + Send + Copy>(
     rt: H,
     alloc: Global,
-    text: &str,
+    docket: &str,
     gate: &Firm,
-    output: &mut Vec<u8>,
+    sheet: &mut Vec<u8>,
 ) -> Result<Status, ServeFault> {
     serve_match(
         rt,
         alloc,
-        text.as_bytes(),
-        output,
+        docket.as_bytes(),
+        sheet,
         &MatchOptions::default(),
         gate,
     )
@@ -44,10 +44,10 @@ fn events_entered(held: &Held) -> Option<u64> {
 #[test]
 fn two_at_once(rt: HostRuntime) {
     let gate = Firm(Held::new(0));
-    let mut output = Vec::new(rt.alloc());
-    let status = match_through_gate(rt, rt.alloc(), SMALL_DOCKET, &gate, &mut output);
+    let mut sheet = Vec::new(rt.alloc());
+    let status = match_through_gate(rt, rt.alloc(), SMALL_DOCKET, &gate, &mut sheet);
     assert!(rt; status == Ok(Status::Closed));
-    assert!(rt; output.as_slice() == SMALL_SHEET.as_bytes());
+    assert!(rt; sheet.as_slice() == SMALL_SHEET.as_bytes());
     assert!(rt; events_entered(&gate.0) == Some(9));
 }
 
@@ -75,14 +75,14 @@ fn is_stable<H: Threads + Wait + RandomSource + Sync + Send + Copy>(
 
 #[test]
 fn the_widest_docket(rt: HostRuntime) -> Result<(), Fail> {
-    let text = widest_docket(rt.alloc())?;
+    let docket = widest_docket(rt.alloc())?;
     let gate = Firm(Held::new(9_999));
-    let mut output = Vec::new(rt.alloc());
-    let status = match_through_gate(rt, rt.alloc(), text.as_str(), &gate, &mut output);
+    let mut sheet = Vec::new(rt.alloc());
+    let status = match_through_gate(rt, rt.alloc(), docket.as_str(), &gate, &mut sheet);
     assert!(rt; status == Ok(Status::Closed));
     assert!(rt; events_entered(&gate.0).is_some());
-    assert!(rt; is_widest_sheet(output.as_slice()));
-    assert!(rt; is_stable(rt, rt.alloc(), text.as_str(), output.as_slice())?);
+    assert!(rt; is_widest_sheet(sheet.as_slice()));
+    assert!(rt; is_stable(rt, rt.alloc(), docket.as_str(), sheet.as_slice())?);
     Ok(())
 }
 
@@ -95,25 +95,25 @@ const ROOMY_MATCH: Order = Order::Match(MatchOptions {
 
 #[test]
 fn all_in_one_order(rt: HostRuntime) -> Result<(), Fail> {
-    let text = docket_in_one_order(rt.alloc())?;
-    let sheet = sheet_in_one_order(rt.alloc())?;
+    let docket = docket_in_one_order(rt.alloc())?;
+    let right_sheet = sheet_in_one_order(rt.alloc())?;
     for order in [MATCH, NARROW_MATCH] {
-        let mut output = Vec::new(rt.alloc());
-        let status = serve(rt, rt.alloc(), order, text.as_bytes(), &mut output);
+        let mut sheet = Vec::new(rt.alloc());
+        let status = serve(rt, rt.alloc(), order, docket.as_bytes(), &mut sheet);
         assert!(rt; status == Ok(Status::Closed));
-        assert!(rt; output.as_slice() == sheet.as_bytes());
+        assert!(rt; sheet.as_slice() == right_sheet.as_bytes());
     }
     Ok(())
 }
 
 #[test]
 fn the_journal_of_all_in_one_order(rt: HostRuntime) -> Result<(), Fail> {
-    let text = docket_in_one_order(rt.alloc())?;
-    let sheet = sheet_in_one_order(rt.alloc())?;
-    let Some(written) = match_output(rt, rt.alloc(), ROOMY_MATCH, text.as_str()) else {
+    let docket = docket_in_one_order(rt.alloc())?;
+    let right_sheet = sheet_in_one_order(rt.alloc())?;
+    let Some(new_rows) = match_output(rt, rt.alloc(), ROOMY_MATCH, docket.as_str()) else {
         return Err(Fail::from("the match isn't closed"));
     };
-    assert!(rt; written.as_slice().starts_with(sheet.as_bytes()));
-    assert!(rt; is_good(rt, rt.alloc(), text.as_str(), written.as_slice())?);
+    assert!(rt; new_rows.as_slice().starts_with(right_sheet.as_bytes()));
+    assert!(rt; is_good(rt, rt.alloc(), docket.as_str(), new_rows.as_slice())?);
     Ok(())
 }

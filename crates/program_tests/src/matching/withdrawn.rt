@@ -39,10 +39,10 @@ const WITHDRAWN_MATCHES: [(&[&str], &str); 7] = [
 
 #[test]
 fn matches_who_is_left(rt: HostRuntime) -> Result<(), Fail> {
-    for (texts, sheet) in WITHDRAWN_MATCHES {
+    for (docket, sheet) in WITHDRAWN_MATCHES {
         for order in [MATCH, NARROW_MATCH] {
-            let expected = (Ok(Status::Closed), sheet, 0);
-            assert!(rt; serves(rt, rt.alloc(), order, texts, expected)?, "{sheet}");
+            let outcome = (Ok(Status::Closed), sheet, 0);
+            assert!(rt; serves(rt, rt.alloc(), order, docket, outcome)?, "{sheet}");
         }
     }
     Ok(())

@@ -11,18 +11,18 @@ use std::thread;
 /// events.
 #[derive(Drop)]
 pub struct Held {
-    held_call: u64,
-    passed_calls: AtomicU64,
+    held_call_number: u64,
+    pass_call_count: AtomicU64,
     was_held: AtomicBool,
     entry_counts: EntryCounts,
 }
 
 impl Held {
-    /// A new record, before the run. The call with the number `held_call`, counted from 0, is to be kept waiting.
-    pub fn new(held_call: u64) -> Held {
+    /// A new record, before the run. The call with the number `held_call_number`, counted from 0, is to be kept waiting.
+    pub fn new(held_call_number: u64) -> Held {
         Held {
-            held_call,
-            passed_calls: AtomicU64::new(0),
+            held_call_number,
+            pass_call_count: AtomicU64::new(0),
             was_held: AtomicBool::new(false),
             entry_counts: EntryCounts::none(),
         }
@@ -52,7 +52,7 @@ impl Held {
 
     // Keeps the chosen call of `pass` waiting. Returns whether the wait ended without the events of other workers.
     fn gives_up(&self, worker: usize) -> bool {
-        if self.passed_calls.fetch_add(1, Ordering::SeqCst) != self.held_call {
+        if self.pass_call_count.fetch_add(1, Ordering::SeqCst) != self.held_call_number {
             return false;
         }
         let others_at_start = self.count_others(worker);
@@ -180,14 +180,14 @@ impl AllButOne {
             && entered_events.saturating_add(blocked_events) >= self.pairs.saturating_mul(4)
     }
 
-    // Keeps a worker waiting. `events` is the number of events that can be entered only once it goes on.
-    fn hold(&self, arrival: u64, events: u64) {
-        self.blocked_events.fetch_add(events, Ordering::SeqCst);
+    // Keeps a worker waiting. `event_count` is the number of events that can be entered only once it goes on.
+    fn hold(&self, arrival: u64, event_count: u64) {
+        self.blocked_events.fetch_add(event_count, Ordering::SeqCst);
         self.waiting_workers.fetch_add(1, Ordering::SeqCst);
         let release_place = self.release_place_of(arrival);
         for _ in 0..MOST_TURNS {
             if self.is_turn_of(release_place) {
-                self.blocked_events.fetch_sub(events, Ordering::SeqCst);
+                self.blocked_events.fetch_sub(event_count, Ordering::SeqCst);
                 self.released_workers.fetch_add(1, Ordering::SeqCst);
                 return;
             }
@@ -206,11 +206,11 @@ impl Gate for AllButOne {
         let arrival = self.came_workers.fetch_add(1, Ordering::SeqCst);
         if arrival < self.held_workers {
             // the offer of a pair is entered before its take, and the answer of a pair is entered before its hear
-            let events = match desk {
+            let event_count = match desk {
                 Desk::Resident(_) => 3,
                 Desk::Programme(_) => 1,
             };
-            self.hold(arrival, events);
+            self.hold(arrival, event_count);
         }
         Go::On
     }

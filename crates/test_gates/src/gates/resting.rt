@@ -19,11 +19,11 @@ pub struct Hold {
     /// The desk of the receipt for which the worker called `pass`.
     pub desk: Desk,
     /// How many events this worker itself had entered.
-    pub own: u64,
+    pub own_entries: u64,
     /// How many events all workers had entered when the wait began.
-    pub from: u64,
+    pub entries_before: u64,
     /// How many events all workers had entered when the wait ended.
-    pub to: u64,
+    pub entries_after: u64,
 }
 
 /// How many pauses of a millisecond without an event show that the other workers are at rest.
@@ -38,32 +38,32 @@ const MOST_PAUSES: u32 = 10_000;
 pub struct Stalls<R: Wait + Copy> {
     rt: R,
     clock: AtomicU64,
-    held_call: u64,
-    passed_calls: AtomicU64,
+    held_call_number: u64,
+    pass_call_count: AtomicU64,
     worker: AtomicU64,
-    is_resident: AtomicBool,
+    is_resident_desk: AtomicBool,
     desk_number: AtomicU32,
-    worker_entered: AtomicU64,
-    entered_before: AtomicU64,
-    entered_after: AtomicU64,
+    held_worker_entries: AtomicU64,
+    entries_before: AtomicU64,
+    entries_after: AtomicU64,
     was_held: AtomicBool,
     entry_counts: EntryCounts,
 }
 
 impl<R: Wait + Copy> Stalls<R> {
-    /// A gate before the run. It keeps the call with the number `held_call` waiting, counted from 0.
-    pub fn new(rt: R, held_call: u64) -> Stalls<R> {
+    /// A gate before the run. It keeps the call with the number `held_call_number` waiting, counted from 0.
+    pub fn new(rt: R, held_call_number: u64) -> Stalls<R> {
         Stalls {
             rt,
             clock: AtomicU64::new(0),
-            held_call,
-            passed_calls: AtomicU64::new(0),
+            held_call_number,
+            pass_call_count: AtomicU64::new(0),
             worker: AtomicU64::new(0),
-            is_resident: AtomicBool::new(false),
+            is_resident_desk: AtomicBool::new(false),
             desk_number: AtomicU32::new(0),
-            worker_entered: AtomicU64::new(0),
-            entered_before: AtomicU64::new(0),
-            entered_after: AtomicU64::new(0),
+            held_worker_entries: AtomicU64::new(0),
+            entries_before: AtomicU64::new(0),
+            entries_after: AtomicU64::new(0),
             was_held: AtomicBool::new(false),
             entry_counts: EntryCounts::none(),
         }
@@ -80,7 +80,7 @@ impl<R: Wait + Copy> Stalls<R> {
             return None;
         }
         let desk_number = self.desk_number.load(Ordering::SeqCst);
-        let desk = if self.is_resident.load(Ordering::SeqCst) {
+        let desk = if self.is_resident_desk.load(Ordering::SeqCst) {
             Desk::Resident(ResidentNo(desk_number))
         } else {
             Desk::Programme(ProgrammeNo(desk_number))
@@ -88,43 +88,43 @@ impl<R: Wait + Copy> Stalls<R> {
         Some(Hold {
             worker: self.worker.load(Ordering::SeqCst) as usize,
             desk,
-            own: self.worker_entered.load(Ordering::SeqCst),
-            from: self.entered_before.load(Ordering::SeqCst),
-            to: self.entered_after.load(Ordering::SeqCst),
+            own_entries: self.held_worker_entries.load(Ordering::SeqCst),
+            entries_before: self.entries_before.load(Ordering::SeqCst),
+            entries_after: self.entries_after.load(Ordering::SeqCst),
         })
     }
 
     // Waits until no worker has entered an event for a long time. Returns how many events were entered by then.
     fn wait_for_rest(&self) -> u64 {
-        let mut entered = self.entry_counts.of_all();
-        let mut quiet_pauses = 0_u32;
+        let mut entry_sum = self.entry_counts.of_all();
+        let mut quiet_pause_count = 0_u32;
         for _ in 0..MOST_PAUSES {
-            if quiet_pauses >= PAUSES {
+            if quiet_pause_count >= PAUSES {
                 break;
             }
             self.clock
                 .park_timeout(&self.rt, 0, Duration::from_millis(1));
-            let entered_by_now = self.entry_counts.of_all();
-            quiet_pauses = if entered_by_now == entered {
-                quiet_pauses.saturating_add(1)
+            let entry_sum_now = self.entry_counts.of_all();
+            quiet_pause_count = if entry_sum_now == entry_sum {
+                quiet_pause_count.saturating_add(1)
             } else {
                 0
             };
-            entered = entered_by_now;
+            entry_sum = entry_sum_now;
         }
-        entered
+        entry_sum
     }
 
     // Notes the worker and the desk of the call that is kept waiting.
     fn note(&self, worker: usize, desk: Desk) {
         self.worker.store(worker as u64, Ordering::SeqCst);
-        self.worker_entered
+        self.held_worker_entries
             .store(self.entry_counts.of(worker), Ordering::SeqCst);
-        self.entered_before
+        self.entries_before
             .store(self.entry_counts.of_all(), Ordering::SeqCst);
         match desk {
             Desk::Resident(resident) => {
-                self.is_resident.store(true, Ordering::SeqCst);
+                self.is_resident_desk.store(true, Ordering::SeqCst);
                 self.desk_number.store(resident.0, Ordering::SeqCst);
             }
             Desk::Programme(programme) => self.desk_number.store(programme.0, Ordering::SeqCst),
@@ -138,11 +138,11 @@ impl<R: Wait + Copy + Sync> Gate for Stalls<R> {
     const MAY_STOP: bool = false;
 
     fn pass(&self, worker: usize, desk: Desk) -> Go {
-        if self.passed_calls.fetch_add(1, Ordering::SeqCst) != self.held_call {
+        if self.pass_call_count.fetch_add(1, Ordering::SeqCst) != self.held_call_number {
             return Go::On;
         }
         self.note(worker, desk);
-        self.entered_after
+        self.entries_after
             .store(self.wait_for_rest(), Ordering::SeqCst);
         self.was_held.store(true, Ordering::SeqCst);
         Go::On
@@ -218,7 +218,7 @@ impl Gate for HoldsEntered {
 /// second wait begins, and ends when another worker has entered one more event.
 #[derive(Drop)]
 pub struct HoldsVisit {
-    has_begun: AtomicBool,
+    has_visit_begun: AtomicBool,
     first_worker: AtomicU64,
     was_held: AtomicBool,
     entry_counts: EntryCounts,
@@ -228,7 +228,7 @@ impl HoldsVisit {
     /// A gate that has counted no entry yet.
     pub fn new() -> HoldsVisit {
         HoldsVisit {
-            has_begun: AtomicBool::new(false),
+            has_visit_begun: AtomicBool::new(false),
             first_worker: AtomicU64::new(0),
             was_held: AtomicBool::new(false),
             entry_counts: EntryCounts::none(),
@@ -268,7 +268,7 @@ impl Gate for HoldsVisit {
 
     fn entered(&self, worker: usize) {
         self.entry_counts.add(worker);
-        if !self.has_begun.swap(true, Ordering::SeqCst) {
+        if !self.has_visit_begun.swap(true, Ordering::SeqCst) {
             self.first_worker.store(worker as u64, Ordering::SeqCst);
             self.wait_for_others(worker, 2);
             for _ in 0..LINGER_TURNS {
@@ -299,7 +299,7 @@ pub struct Rested<R: Wait + Copy> {
     desk: Desk,
     receipt_worker: AtomicU64,
     next_own_entry: AtomicU64,
-    others_entered: AtomicU64,
+    other_entries: AtomicU64,
     was_held: AtomicBool,
     entry_counts: EntryCounts,
 }
@@ -313,7 +313,7 @@ impl<R: Wait + Copy> Rested<R> {
             desk,
             receipt_worker: AtomicU64::new(0),
             next_own_entry: AtomicU64::new(0),
-            others_entered: AtomicU64::new(0),
+            other_entries: AtomicU64::new(0),
             was_held: AtomicBool::new(false),
             entry_counts: EntryCounts::none(),
         }
@@ -339,7 +339,7 @@ impl<R: Wait + Copy> Rested<R> {
     // Waits until another worker has entered an event.
     fn hold(&self, worker: usize) {
         for _ in 0..MOST_LOOKS {
-            if self.entered_by_others(worker) > self.others_entered.load(Ordering::SeqCst) {
+            if self.entered_by_others(worker) > self.other_entries.load(Ordering::SeqCst) {
                 self.was_held.store(true, Ordering::SeqCst);
                 return;
             }
@@ -362,7 +362,7 @@ impl<R: Wait + Copy + Sync> Gate for Rested<R> {
             self.receipt_worker.store(worker as u64, Ordering::SeqCst);
             self.next_own_entry.store(next_entry, Ordering::SeqCst);
             self.sleep();
-            self.others_entered
+            self.other_entries
                 .store(self.entered_by_others(worker), Ordering::SeqCst);
         } else if self.receipt_worker.load(Ordering::SeqCst) == worker as u64 {
             self.next_own_entry.store(0, Ordering::SeqCst);

@@ -30,20 +30,20 @@ impl Gate for StopsAtOnce {
 /// events, or until no worker has entered an event for a long time.
 #[derive(Drop)]
 pub struct StopsFrom {
-    first_stop: u64,
-    passed_calls: AtomicU64,
+    first_stopped_call: u64,
+    pass_call_count: AtomicU64,
     stopped_workers: [AtomicBool; 8],
     has_stop_begun: AtomicBool,
     entry_counts: EntryCounts,
-    later_entries: EntryCounts,
+    entries_after_stop: EntryCounts,
 }
 
 impl StopsFrom {
     /// A gate that has counted no call yet.
-    pub fn new(first_stop: u64) -> StopsFrom {
+    pub fn new(first_stopped_call: u64) -> StopsFrom {
         StopsFrom {
-            first_stop,
-            passed_calls: AtomicU64::new(0),
+            first_stopped_call,
+            pass_call_count: AtomicU64::new(0),
             stopped_workers: [
                 AtomicBool::new(false),
                 AtomicBool::new(false),
@@ -56,7 +56,7 @@ impl StopsFrom {
             ],
             has_stop_begun: AtomicBool::new(false),
             entry_counts: EntryCounts::none(),
-            later_entries: EntryCounts::none(),
+            entries_after_stop: EntryCounts::none(),
         }
     }
 
@@ -68,7 +68,7 @@ impl StopsFrom {
     /// Whether each worker entered at most one event after a stopped worker had entered its event.
     pub fn all_ended(&self) -> bool {
         for worker in 0..8 {
-            if self.later_entries.of(worker) > 1 {
+            if self.entries_after_stop.of(worker) > 1 {
                 return false;
             }
         }
@@ -90,10 +90,10 @@ impl Gate for StopsFrom {
 
     fn pass(&self, worker: usize, _desk: Desk) -> Go {
         if self
-            .passed_calls
+            .pass_call_count
             .fetch_add(1, Ordering::SeqCst)
             .saturating_add(1)
-            < self.first_stop
+            < self.first_stopped_call
         {
             return Go::On;
         }
@@ -106,7 +106,7 @@ impl Gate for StopsFrom {
     fn entered(&self, worker: usize) {
         self.entry_counts.add(worker);
         if self.has_stop_begun.load(Ordering::SeqCst) {
-            self.later_entries.add(worker);
+            self.entries_after_stop.add(worker);
             return;
         }
         if self.is_stopped(worker) && !self.has_stop_begun.swap(true, Ordering::SeqCst) {

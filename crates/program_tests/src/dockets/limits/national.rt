@@ -11,54 +11,60 @@ use test_support::randomness::OneByte;
 
 // Whether reading a docket within the national limits ends as expected: with a fault of this text, or without a fault
 // if the text is `read`.
-fn reads_as(alloc: Global, text: &str, wanted: &str) -> Result<bool, AllocError> {
+fn reads_as(alloc: Global, docket: &str, outcome: &str) -> Result<bool, AllocError> {
     let limits = Limits::National;
-    match read_docket_within(&OneByte(7), alloc, limits, text.as_bytes()) {
-        Ok(_) => Ok(wanted == "read"),
+    match read_docket_within(&OneByte(7), alloc, limits, docket.as_bytes()) {
+        Ok(_) => Ok(outcome == "read"),
         Err(fault) => {
             let fault_text = fault.within(limits).to_string(alloc)?;
-            Ok(fault_text.as_str() == wanted)
+            Ok(fault_text.as_str() == outcome)
         }
     }
 }
 
 #[test]
 fn programmes(rt: HostRuntime) -> Result<(), Fail> {
-    for (record_count, wanted) in [
+    for (record_count, outcome) in [
         (2_001, "read"),
         (10_000, "read"),
         (10_001, "record 10001: more than 10000 programmes"),
     ] {
-        let text = numbered_records(rt.alloc(), "Q,p", record_count, ",10000\n")?;
-        assert!(rt; reads_as(rt.alloc(), text.as_str(), wanted)?, "{wanted}");
+        let docket = numbered_records(rt.alloc(), "Q,p", record_count, ",10000\n")?;
+        assert!(rt;
+            reads_as(rt.alloc(), docket.as_str(), outcome)?,
+            "{outcome}"
+        );
     }
     Ok(())
 }
 
 #[test]
 fn residents(rt: HostRuntime) -> Result<(), Fail> {
-    for (record_count, wanted) in [
+    for (record_count, outcome) in [
         (20_001, "read"),
         (100_000, "read"),
         (100_001, "record 100001: more than 100000 residents"),
     ] {
-        let text = numbered_records(rt.alloc(), "R,r", record_count, "\n")?;
-        assert!(rt; reads_as(rt.alloc(), text.as_str(), wanted)?, "{wanted}");
+        let docket = numbered_records(rt.alloc(), "R,r", record_count, "\n")?;
+        assert!(rt;
+            reads_as(rt.alloc(), docket.as_str(), outcome)?,
+            "{outcome}"
+        );
     }
     Ok(())
 }
 
 #[test]
 fn pairs(rt: HostRuntime) -> Result<(), Fail> {
-    let text = ranked_docket(rt.alloc(), ELEVENTH)?;
-    assert!(rt; reads_as(rt.alloc(), text.as_str(), "read")?);
+    let docket = ranked_docket(rt.alloc(), ELEVENTH)?;
+    assert!(rt; reads_as(rt.alloc(), docket.as_str(), "read")?);
     Ok(())
 }
 
 #[test]
 fn records(rt: HostRuntime) -> Result<(), Fail> {
-    let text = docket_of_closes(rt.alloc(), 2_000_001)?;
-    assert!(rt; reads_as(rt.alloc(), text.as_str(), "read")?);
+    let docket = docket_of_closes(rt.alloc(), 2_000_001)?;
+    assert!(rt; reads_as(rt.alloc(), docket.as_str(), "read")?);
     Ok(())
 }
 
@@ -71,19 +77,19 @@ const MATCH: MatchOptions = MatchOptions {
 
 #[test]
 fn matches_beyond_the_standard_limits(rt: HostRuntime) -> Result<(), Fail> {
-    let mut text = numbered_records(rt.alloc(), "Q,p", 2_001, ",1\n")?;
-    text.push_str("P,p2000,r\nR,r,p2000\n")?;
+    let mut docket = numbered_records(rt.alloc(), "Q,p", 2_001, ",1\n")?;
+    docket.push_str("P,p2000,r\nR,r,p2000\n")?;
     let mut sheet = Vec::new(rt.alloc());
-    let answer = serve_within(
+    let status = serve_within(
         rt,
         rt.alloc(),
         Limits::National,
         &Order::Match(MATCH),
-        text.as_bytes(),
+        docket.as_bytes(),
         &mut sheet,
         &OpenGate,
     );
-    assert!(rt; answer == Ok(Status::Closed));
+    assert!(rt; status == Ok(Status::Closed));
     assert!(rt;
         sheet
             .as_slice()

@@ -3,5 +3,5 @@ use Rattle.std.specs.List.{All}
 use Rattle.library_tests.proofs.agents.by_hand.open_residents.Given as goal
 
 -- no sending end made so far has put a message
-abbrev pub invariant-loop-r : goal.invariant-loop-r
-invariant-loop-r g l = All (λ end. end.puts ≡ []) l.puts.items
+abbrev pub invariant-loop-resident : goal.invariant-loop-resident
+invariant-loop-resident g l = All (λ end. end.puts ≡ []) l.puts.items
