@@ -36,7 +36,14 @@ fn read_files_and_tell<H: RandomSource>(
             fault: RecordsFault::Docket(DocketFault::Read { place: 1 }),
         });
     };
-    let case = Case::read_files(rt, alloc, limits, docket, sheet, asked == Asked::All)?;
+    let case = Case::read_files(
+        rt,
+        alloc,
+        limits,
+        docket,
+        sheet,
+        asked == Asked::AllResidents,
+    )?;
     text_of(alloc, hash_keys, &case, key_bytes, asked, without_ranks)
 }
 
@@ -94,7 +101,7 @@ pub fn serve_why_files_within<W: Write, H: RandomSource>(
     ensures before { IfErr result (λ fault. fault ≢ WhyFault.Docket DocketFault.Write
         → writer.new ≡ writer.old) }
 {
-    let text = match read_files_and_tell(
+    let answer = match read_files_and_tell(
         rt,
         alloc,
         limits,
@@ -104,10 +111,10 @@ pub fn serve_why_files_within<W: Write, H: RandomSource>(
         without_ranks,
         key_bytes,
     ) {
-        Ok(text) => text,
+        Ok(answer) => answer,
         Err(fault) => return Err(fault),
     };
-    match writer.write_all(text.as_slice()) {
+    match writer.write_all(answer.as_slice()) {
         Ok(()) => Ok(()),
         Err(_) => Err(WhyFault::Docket(DocketFault::Write)),
     }

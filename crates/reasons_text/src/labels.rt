@@ -65,10 +65,10 @@ fn note_docket_name<'a>(
 }
 
 // The sign of a member, or an empty text if the key gives the member none.
-fn sign_of(key: &SideKey, place: usize) -> &str
-    ensures { result.now ≡ unwrap_or (text_at (side_of key.now).signs place) [] }
+fn sign_of(key: &SideKey, number: usize) -> &str
+    ensures { result.now ≡ unwrap_or (text_at (side_of key.now).signs number) [] }
 {
-    text_in(key.signs.as_slice(), place).unwrap_or("")
+    text_in(key.signs.as_slice(), number).unwrap_or("")
 }
 
 // Notes the name, the sign and the label that the key gives a member, if the key has a row of the
@@ -114,19 +114,19 @@ fn named_count(docket: &Docket, side: Side, names: &[String]) -> usize
     ensures members { members_of docket.now side ≤ result }
     ensures rows { length names.now ≤ result }
 {
-    let members = member_count(docket, side) as usize;
-    members.max(names.len())
+    let docket_member_count = member_count(docket, side) as usize;
+    docket_member_count.max(names.len())
 }
 
 // The label of a member, or an empty text if the key gives the member no name.
-fn full_label(alloc: Global, key: &SideKey, place: usize) -> Result<String, AllocError>
+fn full_label(alloc: Global, key: &SideKey, number: usize) -> Result<String, AllocError>
     ensures { IfOk result (λ label.
-        string_bytes label ≡ spec.full_label (side_of key.now) place) }
+        string_bytes label ≡ spec.full_label (side_of key.now) number) }
 {
-    let Some(name) = text_in(key.names.as_slice(), place) else {
+    let Some(name) = text_in(key.names.as_slice(), number) else {
         return Ok(String::new(alloc));
     };
-    label_text(alloc, name, sign_of(key, place))
+    label_text(alloc, name, sign_of(key, number))
 }
 
 // The labels of all who may have names.
@@ -183,12 +183,12 @@ fn label_if_shared(
     ensures { IfOk result (λ label.
         string_bytes label ≡ spec.label_by owners.now (side_of key.now) number) }
 {
-    let place = number as usize;
-    let Some(name) = text_in(key.names.as_slice(), place) else {
+    let index = number as usize;
+    let Some(name) = text_in(key.names.as_slice(), index) else {
         return Ok(String::new(alloc));
     };
     match owner(owners, name) {
-        Meant::Several => full_label(alloc, key, place),
+        Meant::Several => full_label(alloc, key, index),
         Meant::One(_) | Meant::Nobody => Ok(String::new(alloc)),
     }
 }

@@ -148,7 +148,7 @@ fn matches_of<'a, S: AsStr>(
 // all.
 fn asked<'a>(matches: &ArgMatches<'a>) -> Option<Asked<'a>>
     ensures all { IfSome result (λ asked. IsFlagged (codes "all") (rows_of (found_of matches.now))
-        → asked ≡ Asked.All) }
+        → asked ≡ Asked.AllResidents) }
     ensures one { IfSome result (λ asked. IsUnflagged (codes "all") (rows_of (found_of matches.now))
         → IsAskedBy (first_of (codes "resident") (rows_of (found_of matches.now)))
         (first_of (codes "programme") (rows_of (found_of matches.now))) asked) }
@@ -157,7 +157,7 @@ fn asked<'a>(matches: &ArgMatches<'a>) -> Option<Asked<'a>>
     let is_about_all_residents = matches.get_flag("all");
     let Some(resident) = matches.get_str("resident") else {
         return if is_about_all_residents {
-            Some(Asked::All)
+            Some(Asked::AllResidents)
         } else {
             None
         };

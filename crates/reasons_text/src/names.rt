@@ -55,8 +55,8 @@ impl Names<'_> {
         ensures members { member_count_in self.now.docket.now side ≤ result }
         ensures rows { length (names_in (naming_of self.now) side).names ≤ result }
     {
-        let members = member_count(self.docket, side) as usize;
-        members.max(self.side_key(side).names.len())
+        let docket_member_count = member_count(self.docket, side) as usize;
+        docket_member_count.max(self.side_key(side).names.len())
     }
 
     /// The name that is shown for a member, or an empty name for a number without a member.
@@ -65,11 +65,11 @@ impl Names<'_> {
         ensures { result.now ≡ shown (naming_of self.now) side number }
     {
         let key = self.side_key(side);
-        let place = number as usize;
-        if let Some(label) = text_in(key.labels.as_slice(), place) {
+        let index = number as usize;
+        if let Some(label) = text_in(key.labels.as_slice(), index) {
             return label;
         }
-        match text_in(key.names.as_slice(), place) {
+        match text_in(key.names.as_slice(), index) {
             Some(name) => name,
             None => docket_name(self.docket, side, number),
         }
@@ -133,10 +133,11 @@ impl Names<'_> {
         text: &str,
         number: usize,
     ) -> Result<bool, AllocError>
-        ensures { IfOk result (λ answer. answer ≡ means (naming_of self.now) side text.now number) }
+        ensures { IfOk result (λ is_meant.
+            is_meant ≡ means (naming_of self.now) side text.now number) }
     {
-        let members = member_count(self.docket, side) as usize;
-        if number < members && docket_name(self.docket, side, number as u32) == text {
+        let docket_member_count = member_count(self.docket, side) as usize;
+        if number < docket_member_count && docket_name(self.docket, side, number as u32) == text {
             return Ok(true);
         }
         let key = self.side_key(side);

@@ -31,16 +31,16 @@ pub enum NamesFault {
     Key(WhyFault),
     /// A name or an ID is no text, or has a character that is invisible or changes the direction of
     /// text.
-    #[error("record {place} of the key: its name or ID has a hidden character")]
+    #[error("record {row_number} of the key: its name or ID has a hidden character")]
     Hidden {
-        /// The number of the record, from 1.
-        place: u64,
+        /// The number of the row, from 1.
+        row_number: u64,
     },
     /// A name or an ID is longer than [`LONGEST_NAME`].
-    #[error("record {place} of the key: its name or ID is longer than 10000 bytes")]
+    #[error("record {row_number} of the key: its name or ID is longer than 10000 bytes")]
     Long {
-        /// The number of the record, from 1.
-        place: u64,
+        /// The number of the row, from 1.
+        row_number: u64,
     },
 }
 
@@ -161,12 +161,12 @@ fn name_at(names: &[Option<ByteRecord>], member: usize) -> Option<&ByteRecord>
     }
 }
 
-// Puts a real name at index `place`, if there is such an index.
-fn put(names: &mut Vec<Option<ByteRecord>>, place: usize, real_name: ByteRecord)
+// Puts a real name at index `member`, if there is such an index.
+fn put(names: &mut Vec<Option<ByteRecord>>, member: usize, real_name: ByteRecord)
     ensures { map real_in names.new.items
-        ≡ slice_set (map real_in names.old.items) place (Some (fields_of real_name)) }
+        ≡ slice_set (map real_in names.old.items) member (Some (fields_of real_name)) }
 {
-    if let Some(slot) = names.get_mut(place) {
+    if let Some(slot) = names.get_mut(member) {
         *slot = Some(real_name);
     }
 }
@@ -188,9 +188,9 @@ impl Model for RealNames {
 
     ghost Value = { Real };
 
-    ghost view = { λ a. record {
-      programmes = map real_in a.programmes.items;
-      residents = map real_in a.residents.items;
+    ghost view = { λ real_names. record {
+      programmes = map real_in real_names.programmes.items;
+      residents = map real_in real_names.residents.items;
     } };
 }
 
@@ -283,24 +283,24 @@ fn test_row(
     numbers: &MemberNumbers,
     key: &mut Key,
     row: &ByteRecord,
-    place: u64,
+    row_number: u64,
 ) -> Result<(), NamesFault>
     requires { AreNumbers numbers.now }
     ensures row { OnOk result (both_of key.new
         ≡ added numbers.now.docket.now (both_of key.old) (fields_of row.now)) }
-    ensures faultless { OnOk result
-        (real_fault numbers.now.docket.now (both_of key.old) place (fields_of row.now) ≡ None) }
+    ensures faultless { OnOk result (real_fault
+        numbers.now.docket.now (both_of key.old) row_number (fields_of row.now) ≡ None) }
     ensures fault { IfErr result (λ fault. IsOutOfMemory fault ⊎ (real_fault
-        numbers.now.docket.now (both_of key.old) place (fields_of row.now) ≡ Some fault)) }
+        numbers.now.docket.now (both_of key.old) row_number (fields_of row.now) ≡ Some fault)) }
 {
-    if let Err(fault) = key.add(alloc, numbers, row, place) {
+    if let Err(fault) = key.add(alloc, numbers, row, row_number) {
         return Err(NamesFault::Key(fault));
     }
     if is_unclear(field(row, 2)) || is_unclear(field(row, 3)) {
-        return Err(NamesFault::Hidden { place });
+        return Err(NamesFault::Hidden { row_number });
     }
     if is_long(field(row, 2)) || is_long(field(row, 3)) {
-        return Err(NamesFault::Long { place });
+        return Err(NamesFault::Long { row_number });
     }
     Ok(())
 }
