@@ -49,7 +49,7 @@ pub fn load_input<'a, R: Read>(
     let mut bytes = Vec::new(alloc);
     match reader.read_to_end(&mut bytes) {
         Ok(_) => Ok(bytes),
-        Err(error) => Err(not_read(name, error)),
+        Err(error) => Err(unread_file(name, error)),
     }
 }
 
@@ -57,7 +57,7 @@ pub fn load_input<'a, R: Read>(
 pub fn load_path<'a, H: Files + AllocGlobal>(rt: &H, path: &'a str) -> Result<Vec<u8>, Unread<'a>> {
     match fs::read(rt, path) {
         Ok(bytes) => Ok(bytes),
-        Err(error) => Err(not_read(path, error)),
+        Err(error) => Err(unread_file(path, error)),
     }
 }
 

@@ -67,7 +67,7 @@ fn taken_of(
         (list_at listed_instance.now.written.programme_lists programme) sheet.now programme result }
 {
     match taken_places.get(programme.0 as usize) {
-        Some(taken) => *taken,
+        Some(programme_places) => *programme_places,
         None => places_taken(listed_instance, sheet, programme),
     }
 }
@@ -88,8 +88,14 @@ fn reason_from(
         resident programme result }
 {
     let listed_instance = Listed::new(docket.instance(), written_lists);
-    let taken = taken_of(&listed_instance, sheet, taken_places, programme);
-    why(&listed_instance, sheet, &taken, resident, programme)
+    let programme_places = taken_of(&listed_instance, sheet, taken_places, programme);
+    why(
+        &listed_instance,
+        sheet,
+        &programme_places,
+        resident,
+        programme,
+    )
 }
 
 // How many residents the sheet matches with a programme.
@@ -197,16 +203,16 @@ impl Case {
         rt: &H,
         alloc: Global,
         limits: Limits,
-        docket: &[u8],
-        sheet: &[u8],
+        docket_bytes: &[u8],
+        sheet_bytes: &[u8],
         are_all_residents_asked: bool,
     ) -> Result<Case, WhyFault>
         ensures read { IfOk result (λ case. IsInFilesWithLists
-            limits docket.now sheet.now [] case.docket case.written) }
+            limits docket_bytes.now sheet_bytes.now [] case.docket case.written) }
         ensures sheet { IfOk result (λ case. case.docket.sheet ≡ Some case.sheet) }
-        ensures fault { IfErr result (IsFilesCaseFault limits docket.now sheet.now) }
+        ensures fault { IfErr result (IsFilesCaseFault limits docket_bytes.now sheet_bytes.now) }
     {
-        match read_parts_with_lists(rt, alloc, limits, docket, sheet, &[]) {
+        match read_parts_with_lists(rt, alloc, limits, docket_bytes, sheet_bytes, &[]) {
             Ok((docket, written_lists, _)) => match Case::of_docket(
                 alloc,
                 docket,

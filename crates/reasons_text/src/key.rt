@@ -259,14 +259,14 @@ impl Key {
         alloc: Global,
         hash_keys: RandomState,
         docket: &Docket,
-        bytes: &[u8],
+        key_bytes: &[u8],
     ) -> Result<Key, WhyFault>
-        ensures key { IfOk result (λ key. IsKeyOf docket.now bytes.now (both_of key)) }
-        ensures fault { IfErr result (IsKeyFault docket.now bytes.now) }
+        ensures key { IfOk result (λ key. IsKeyOf docket.now key_bytes.now (both_of key)) }
+        ensures fault { IfErr result (IsKeyFault docket.now key_bytes.now) }
     {
         let numbers = MemberNumbers::of(alloc, hash_keys, docket)?;
         let mut key = Key::unnamed(alloc, docket)?;
-        key.add_all(alloc, &numbers, bytes)?;
+        key.add_all(alloc, &numbers, key_bytes)?;
         let resident_labels = labels(alloc, hash_keys, docket, Side::Residents, &key.residents)?;
         let programme_labels = labels(alloc, hash_keys, docket, Side::Programmes, &key.programmes)?;
         key.residents.labels = resident_labels;
@@ -279,15 +279,15 @@ impl Key {
         &mut self,
         alloc: Global,
         numbers: &MemberNumbers,
-        bytes: &[u8],
+        key_bytes: &[u8],
     ) -> Result<(), WhyFault>
         requires { AreNumbers numbers.now }
         ensures all { OnOk result
-            (AddsAll numbers.now.docket.now bytes.now (both_of self.old) (both_of self.new)) }
+            (AddsAll numbers.now.docket.now key_bytes.now (both_of self.old) (both_of self.new)) }
         ensures fault { IfErr result (λ fault. (fault ≡ WhyFault.Docket DocketFault.Memory)
-            ⊎ HasBadRow numbers.now.docket.now (both_of self.old) bytes.now fault) }
+            ⊎ HasBadRow numbers.now.docket.now (both_of self.old) key_bytes.now fault) }
     {
-        let mut reader = reader_over(alloc, delimiter_of(bytes), bytes)?;
+        let mut reader = reader_over(alloc, delimiter_of(key_bytes), key_bytes)?;
         let mut row = ByteRecord::new(alloc);
         for rows_before in 0..u64::MAX {
             if !next_row(&mut reader, &mut row)? {

@@ -109,10 +109,10 @@ fn is_long(text: &[u8]) -> bool
 }
 
 // The records of a key.
-fn key_rows(alloc: Global, bytes: &[u8]) -> Result<Vec<ByteRecord>, AllocError>
-    ensures { IfOk result (λ rows. AreKeyRows bytes.now (map fields_of rows.items)) }
+fn key_rows(alloc: Global, key_bytes: &[u8]) -> Result<Vec<ByteRecord>, AllocError>
+    ensures { IfOk result (λ rows. AreKeyRows key_bytes.now (map fields_of rows.items)) }
 {
-    let mut reader = reader_over(alloc, delimiter_of(bytes), bytes)?;
+    let mut reader = reader_over(alloc, delimiter_of(key_bytes), key_bytes)?;
     let mut rows = Vec::new(alloc);
     for _n in 0..u64::MAX {
         let mut row = ByteRecord::new(alloc);
@@ -222,15 +222,15 @@ impl RealNames {
         rt: &H,
         alloc: Global,
         docket: &Docket,
-        bytes: &[u8],
+        key_bytes: &[u8],
     ) -> Result<RealNames, NamesFault>
-        ensures names { IfOk result (IsRealOf docket.now bytes.now) }
-        ensures fault { IfErr result (IsNamesFault docket.now bytes.now) }
+        ensures names { IfOk result (IsRealOf docket.now key_bytes.now) }
+        ensures fault { IfErr result (IsNamesFault docket.now key_bytes.now) }
     {
         let Ok(hash_keys) = RandomState::new(rt) else {
             return Err(NamesFault::Key(WhyFault::Docket(DocketFault::Read { place: 1 })));
         };
-        let rows = key_rows(alloc, bytes)?;
+        let rows = key_rows(alloc, key_bytes)?;
         let numbers = MemberNumbers::of(alloc, hash_keys, docket)?;
         names_in_rows(alloc, &numbers, docket, rows.as_slice())
     }

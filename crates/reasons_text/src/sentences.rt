@@ -130,11 +130,11 @@ fn sentence(
         Why::NotRanked => format!(in alloc; "it did not rank you."),
         Why::Matched => format!(in alloc; "you are matched here."),
         Why::PrefersOwn {
-            own,
+            own: own_programme,
             own_rank,
             rank,
         } => {
-            let own_name = names.programme(own);
+            let own_name = names.programme(own_programme);
             let own_ordinal = Ordinal(own_rank);
             let ordinal = Ordinal(rank);
             format!(in alloc;
