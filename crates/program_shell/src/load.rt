@@ -31,7 +31,7 @@ pub fn is_input(path: &str) -> bool
 }
 
 // The reason why the file with this path was not read.
-fn not_read<'a>(path: &'a str, error: io::Error) -> Unread<'a> {
+fn unread_file<'a>(path: &'a str, error: io::Error) -> Unread<'a> {
     match error.kind() {
         io::ErrorKind::OutOfMemory => Unread::Memory(path),
         _ => Unread::Unreadable(path),
