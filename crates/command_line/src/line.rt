@@ -148,12 +148,12 @@ fn commands<'a>(alloc: Global) -> Result<Command<'a>, AllocError>
 }
 
 // The number of workers that the words give, from 1 to 8; 2 if they give none.
-fn workers_of(matches: &ArgMatches) -> usize
+fn workers_of(parsed_words: &ArgMatches) -> usize
     ensures some { 1 ≤ result }
     ensures few { result ≤ 8 }
-    ensures given { GivesWorkers (rows_of (found_of matches.now)) result }
+    ensures given { GivesWorkers (rows_of (found_of parsed_words.now)) result }
 {
-    match matches.get_one::<u64>("workers") {
+    match parsed_words.get_one::<u64>("workers") {
         Some(workers) => workers.clamp(1, 8) as usize,
         None => 2,
     }
@@ -161,26 +161,26 @@ fn workers_of(matches: &ArgMatches) -> usize
 
 // The capacity of the mailboxes that the words give; `full` if they give none. A text that stands for
 // no capacity is a fault.
-fn room_of(matches: &ArgMatches) -> Result<Capacity, LineFault>
+fn room_of(parsed_words: &ArgMatches) -> Result<Capacity, LineFault>
     ensures admitted { IfOk result (λ capacity. is_capacity capacity ≡ true) }
-    ensures given { IfOk result (GivesRoom (rows_of (found_of matches.now))) }
+    ensures given { IfOk result (GivesRoom (rows_of (found_of parsed_words.now))) }
     ensures fault { IfErr result (λ fault. fault ≡ BadCapacity) }
     ensures bad { IfErr result (λ fault.
-        HasBadRoom (Some (codes "match", rows_of (found_of matches.now)))) }
+        HasBadRoom (Some (codes "match", rows_of (found_of parsed_words.now)))) }
 {
-    match matches.get_str("capacity") {
-        Some(text) => capacity_of(text.as_bytes()).ok_or(LineFault::BadCapacity),
+    match parsed_words.get_str("capacity") {
+        Some(capacity_text) => capacity_of(capacity_text.as_bytes()).ok_or(LineFault::BadCapacity),
         None => Ok(Capacity::Full),
     }
 }
 
 // The form of journal that the words ask for.
-fn journal_of(matches: &ArgMatches) -> JournalForm
-    ensures { GivesJournal (rows_of (found_of matches.now)) result }
+fn journal_of(parsed_words: &ArgMatches) -> JournalForm
+    ensures { GivesJournal (rows_of (found_of parsed_words.now)) result }
 {
-    if matches.get_flag("journal-by-worker") {
+    if parsed_words.get_flag("journal-by-worker") {
         JournalForm::ByWorker
-    } else if matches.get_flag("journal") {
+    } else if parsed_words.get_flag("journal") {
         JournalForm::Plain
     } else {
         JournalForm::Absent
@@ -188,21 +188,21 @@ fn journal_of(matches: &ArgMatches) -> JournalForm
 }
 
 // The options that the words of a match give.
-fn match_options(matches: &ArgMatches) -> Result<MatchOptions, LineFault>
+fn match_options(parsed_words: &ArgMatches) -> Result<MatchOptions, LineFault>
     ensures limits { IfOk result IsWithinLimits }
-    ensures options { IfOk result (GivesOptions (rows_of (found_of matches.now))) }
+    ensures options { IfOk result (GivesOptions (rows_of (found_of parsed_words.now))) }
     ensures fault { IfErr result (λ fault. fault ≡ BadCapacity) }
     ensures bad { IfErr result (λ fault.
-        HasBadRoom (Some (codes "match", rows_of (found_of matches.now)))) }
+        HasBadRoom (Some (codes "match", rows_of (found_of parsed_words.now)))) }
 {
-    let capacity = match room_of(matches) {
+    let capacity = match room_of(parsed_words) {
         Ok(capacity) => capacity,
         Err(fault) => return Err(fault),
     };
     Ok(MatchOptions {
-        workers: workers_of(matches),
+        workers: workers_of(parsed_words),
         capacity,
-        journal: journal_of(matches),
+        journal: journal_of(parsed_words),
     })
 }
 
@@ -212,23 +212,24 @@ fn matches_of<'a, S: AsStr>(
     words: &'a [S],
 ) -> Result<ArgMatches<'a>, clap::Error>
     requires { app_of commands.old ≡ commands_app }
-    ensures found { IfOk result (λ matches.
-        subcommand_rows_of matches ≡ subcommand_of commands_app (map S.text words.entry.now)) }
+    ensures found { IfOk result (λ parsed_words.
+        subcommand_rows_of parsed_words ≡ subcommand_of commands_app (map S.text words.entry.now)) }
     ensures refused { IfErr result (HasKind (fault_of commands_app (map S.text words.entry.now))) }
 {
     commands.try_get_matches_from_mut(words)
 }
 
 // What the words ask the program to do, or none if they name no command.
-fn order_named(matches: &ArgMatches) -> Result<Option<Order>, LineFault>
+fn order_named(parsed_words: &ArgMatches) -> Result<Option<Order>, LineFault>
     ensures order { IfOk result (λ order. IfSome order IsOrder) }
-    ensures named { IfOk result (λ order. IfSome order (IsNamed (subcommand_rows_of matches.now))) }
+    ensures named { IfOk result (λ order.
+        IfSome order (IsNamed (subcommand_rows_of parsed_words.now))) }
     ensures none { IfOk result (λ order. order ≡ None
-        → NamesNone (subcommand_rows_of matches.now)) }
+        → NamesNone (subcommand_rows_of parsed_words.now)) }
     ensures fault { IfErr result (λ fault. fault ≡ BadCapacity) }
-    ensures bad { IfErr result (λ fault. HasBadRoom (subcommand_rows_of matches.now)) }
+    ensures bad { IfErr result (λ fault. HasBadRoom (subcommand_rows_of parsed_words.now)) }
 {
-    match matches.subcommand() {
+    match parsed_words.subcommand() {
         Some(("match", options)) => match match_options(options) {
             Ok(options) => Ok(Some(Order::Match(options))),
             Err(fault) => Err(fault),
@@ -258,11 +259,11 @@ pub fn read_line<'a, S: AsStr>(alloc: Global, words: &'a [S]) -> Result<Order, L
     ensures refused { IfErr result (Refuses (map S.text words.entry.now)) }
 {
     let mut commands = commands(alloc)?;
-    let matches = match matches_of(&mut commands, words) {
-        Ok(matches) => matches,
+    let parsed_words = match matches_of(&mut commands, words) {
+        Ok(parsed_words) => parsed_words,
         Err(error) => return Err(line_fault(error)),
     };
-    match order_named(&matches) {
+    match order_named(&parsed_words) {
         Ok(Some(order)) => Ok(order),
         Ok(None) => Err(nothing_named(&mut commands)),
         Err(fault) => Err(fault),

@@ -40,10 +40,10 @@ holds_false p None n = refl
 holds_false p (Some q) n = ne_eqb q p (λ e. n (ap Some e))
 
 -- in a placement without entries, programme p has no members and 0 as the last place
-IsLoadOf-none : (inst : Instance) (p : ℕ) → IsLoadOf inst [] p (record { members = 0; worst = 0 })
+IsLoadOf-none : (inst : Instance) (p : ℕ) → IsLoadOf inst [] p (record { members = 0; worst_rank = 0 })
 IsLoadOf-none inst p = record {
   members = refl;
-  worst = λ k. (λ l. absurd (omega arith), λ (s, h, l). absurd (omega (arith, member_within [] s p h)));
+  worst_rank = λ k. (λ l. absurd (omega arith), λ (s, h, l). absurd (omega (arith, member_within [] s p h)));
 }
 
 -- an entry that does not name programme p leaves the load of p as it is
@@ -51,10 +51,10 @@ IsLoadOf-other : (inst : Instance) (m : List (Option ℕ)) (x : Option ℕ) (p :
     (x ≡ Some p → ⊥) → IsLoadOf inst (m ++ x ∷ []) p load
 IsLoadOf-other inst m x p load h n = record {
   members = h.members ∙ sym (member_count_push m x p ∙ still (holds p x) (holds_false p x n));
-  worst = λ k. (
-    λ l. let c = (h.worst k).0 l in (c.0, member_push_before m x c.0 p c.1, c.2),
+  worst_rank = λ k. (
+    λ l. let c = (h.worst_rank k).0 l in (c.0, member_push_before m x c.0 p c.1, c.2),
     λ (s, e, l). elim (member_push m x s p e) [
-      | inl d ↦ (h.worst k).1 (s, d, l)
+      | inl d ↦ (h.worst_rank k).1 (s, d, l)
       | inr d ↦ absurd (n d.1)
     ],
   );
@@ -65,20 +65,20 @@ IsLoadOf-other inst m x p load h n = record {
 
 -- the load with one member more, who stands at this place of the programme's list
 abbrev pub loaded : Load → ℕ → Load
-loaded load at = record { members = load.members + 1; worst = max load.worst at }
+loaded load at = record { members = load.members + 1; worst_rank = max load.worst_rank at }
 
 -- an entry that names programme p adds a member to the load of p
 IsLoadOf-more : (inst : Instance) (m : List (Option ℕ)) (p : ℕ) (load : Load) → IsLoadOf inst m p load →
     IsLoadOf inst (m ++ Some p ∷ []) p (loaded load (place (list_of_programme inst p) (length m)))
 IsLoadOf-more inst m p load h = record {
   members = sym (member_count_push m (Some p) p ∙ one (holds p (Some p)) (holds_true p (Some p) refl));
-  worst = λ k. (
-    λ l. elim (cases_lt k load.worst) [
-      | inl d ↦ let c = (h.worst k).0 d in (c.0, member_push_before m (Some p) c.0 p c.1, c.2)
+  worst_rank = λ k. (
+    λ l. elim (cases_lt k load.worst_rank) [
+      | inl d ↦ let c = (h.worst_rank k).0 d in (c.0, member_push_before m (Some p) c.0 p c.1, c.2)
       | inr d ↦ (length m, member_push_last m (Some p) p refl, omega arith)
     ],
     λ (s, e, l). elim (member_push m (Some p) s p e) [
-      | inl d ↦ let c = (h.worst k).1 (s, d, l) in omega arith
+      | inl d ↦ let c = (h.worst_rank k).1 (s, d, l) in omega arith
       | inr d ↦ let c : k < place (list_of_programme inst p) (length m) = subst (λ z. k < place (list_of_programme inst p) z) d.0 l in omega arith
     ],
   );
@@ -87,7 +87,7 @@ IsLoadOf-more inst m p load h = record {
     one : (b : Bool) → b ≡ true → member_count m p + cond b 1 0 ≡ load.members + 1
     one b e = rw e (let i = h.members in omega arith)
 
-pub AreLoads-none : (inst : Instance) (n : ℕ) → n ≡ length inst.quotas → AreLoads inst [] (replicate n (record { members = 0; worst = 0 }))
+pub AreLoads-none : (inst : Instance) (n : ℕ) → n ≡ length inst.quotas → AreLoads inst [] (replicate n (record { members = 0; worst_rank = 0 }))
 AreLoads-none inst n e = record {
   one_each = length-replicate n zeroes ∙ e;
   each = λ p load at.
@@ -97,7 +97,7 @@ AreLoads-none inst n e = record {
 }
   where
     zeroes : Load
-    zeroes = record { members = 0; worst = 0 }
+    zeroes = record { members = 0; worst_rank = 0 }
 
 pub AreLoads-other : (inst : Instance) (m : List (Option ℕ)) (x : Option ℕ) (loads : List Load) → AreLoads inst m loads →
     ((p : ℕ) → IsProgramme inst p → x ≡ Some p → ⊥) → AreLoads inst (m ++ x ∷ []) loads
@@ -132,21 +132,21 @@ AreLoads-more inst m p loads load h at = record {
 
 -- programme p has room for resident r exactly if its load shows a free place or a member behind r
 pub room_from_load : (inst : Instance) (m : List (Option ℕ)) (p r : ℕ) (load : Load) → IsLoadOf inst m p load →
-    ((load.members < quota inst p) ⊎ (place (list_of_programme inst p) r < load.worst)) ↔ HasRoomFor inst m p r
+    ((load.members < quota inst p) ⊎ (place (list_of_programme inst p) r < load.worst_rank)) ↔ HasRoomFor inst m p r
 room_from_load inst m p r load h = (
-  λ (c : (load.members < quota inst p) ⊎ (place (list_of_programme inst p) r < load.worst)). elim c [
+  λ (c : (load.members < quota inst p) ⊎ (place (list_of_programme inst p) r < load.worst_rank)). elim c [
     | inl d ↦ inl (let e = h.members in omega arith)
-    | inr d ↦ inr ((h.worst (place (list_of_programme inst p) r)).0 d)
+    | inr d ↦ inr ((h.worst_rank (place (list_of_programme inst p) r)).0 d)
   ],
   λ (c : HasRoomFor inst m p r). elim c [
     | inl d ↦ inl (let e = h.members in omega arith)
-    | inr d ↦ inr ((h.worst (place (list_of_programme inst p) r)).1 d)
+    | inr d ↦ inr ((h.worst_rank (place (list_of_programme inst p) r)).1 d)
   ],
 )
 
 -- the load that is stored for programme p says whether p has room for resident r
 pub room_at : (inst : Instance) (m : List (Option ℕ)) (p r i : ℕ) (loads : List Load) (load : Load) → AreLoads inst m loads → IsProgramme inst p → i ≡ p →
-    (((get_or loads i load).members < quota inst p) ⊎ (place (list_of_programme inst p) r < (get_or loads i load).worst)) ↔ HasRoomFor inst m p r
+    (((get_or loads i load).members < quota inst p) ⊎ (place (list_of_programme inst p) r < (get_or loads i load).worst_rank)) ↔ HasRoomFor inst m p r
 room_at inst m p r i loads load h member e =
     let within : i < length loads = (let l = h.one_each in omega arith) in
     room_from_load inst m p r (get_or loads i load) (h.each p (get_or loads i load) (ap (slice_get loads) (sym e) ∙ slice_get-get_or loads i load within))

@@ -9,7 +9,7 @@ use Rattle.match_audit.specs.declared.load.Load.{Load}
 -- no members
 pub record IsLoadOf (inst : Instance) (m : List (Option ℕ)) (p : ℕ) (load : Load) : Type 0 where
   pub members : load.members ≡ member_count m p
-  pub worst : (k : ℕ) → (k < load.worst) ↔ ((s : ℕ) × IsMemberOf m s p × (k < place (list_of_programme inst p) s))
+  pub worst_rank : (k : ℕ) → (k < load.worst_rank) ↔ ((s : ℕ) × IsMemberOf m s p × (k < place (list_of_programme inst p) s))
 
 -- entry p of the table is the load of programme p
 pub record AreLoads (inst : Instance) (m : List (Option ℕ)) (loads : List Load) : Type 0 where

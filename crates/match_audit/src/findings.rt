@@ -7,7 +7,7 @@ ghost use Rattle.match_audit.specs.Listing.{Lists, ListsNumbers, IsPreferredFron
 ghost use Rattle.match_audit.specs.Report.{IsUnacceptable, IsOver};
 ghost use Rattle.match_audit.specs.Loads.{AreLoads};
 
-use crate::load::{Load, place_at};
+use crate::load::{Load, rank_or_length};
 use match_model::{Assignment, Instance, ProgrammeNo, ResidentNo};
 use std::alloc::{AllocError, Global};
 
@@ -53,8 +53,9 @@ pub(crate) fn over_quota(
     loads: &[Load],
 ) -> Result<Vec<(ProgrammeNo, u32)>, AllocError>
     requires { length loads.now ≡ length inst.now.quotas }
-    ensures { IfOk result (λ programmes_over. (m : List (Option ℕ))
-        → AreLoads inst.now m loads.now → Lists (IsOver inst.now m) programmes_over.items) }
+    ensures { IfOk result (λ programmes_over. (placement : List (Option ℕ))
+        → AreLoads inst.now placement loads.now
+        → Lists (IsOver inst.now placement) programmes_over.items) }
 {
     let mut programmes_over = Vec::new(alloc);
     for p in 0..inst.programmes() {
@@ -159,12 +160,12 @@ fn has_room_for(
 ) -> bool
     requires member { IsProgramme inst.now programme }
     requires loads { length loads.now ≡ length inst.now.quotas }
-    ensures { (m : List (Option ℕ))
-        → AreLoads inst.now m loads.now → IsTrue result ↔ HasRoomFor inst.now m programme resident }
+    ensures { (placement : List (Option ℕ)) → AreLoads inst.now placement loads.now
+        → IsTrue result ↔ HasRoomFor inst.now placement programme resident }
 {
     let load = loads[programme.0 as usize];
     if load.has_fewer_than(inst.quota(programme)) {
         return true;
     }
-    load.has_member_after(place_at(inst, programme, resident))
+    load.has_member_after(rank_or_length(inst, programme, resident))
 }

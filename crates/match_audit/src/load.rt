@@ -7,22 +7,22 @@ ghost use Rattle.match_audit.specs.Loads.{AreLoads};
 use match_model::{Assignment, Instance, ProgrammeNo, ResidentNo};
 use std::alloc::{AllocError, Global};
 
-/// How many members a programme has, and the last place on its list at which one of them stands.
+/// How many members a programme has, and the last rank on its list at which one of them stands.
 #[derive(Clone, Copy, Debug, Default)]
 pub(crate) struct Load {
     pub(crate) members: u32,
-    pub(crate) worst: u32,
+    pub(crate) worst_rank: u32,
 }
 
 impl Load {
-    /// Counts a member who stands at this place of the programme's list.
-    pub(crate) fn add(&mut self, place: u32)
+    /// Counts a member who stands at this rank of the programme's list.
+    pub(crate) fn add(&mut self, rank: u32)
         requires { self.old.members + 1 < 2 ^ 32 }
         ensures { self.new
-            ≡ record { members = self.old.members + 1; worst = max self.old.worst place } }
+            ≡ record { members = self.old.members + 1; worst_rank = max self.old.worst_rank rank } }
     {
         self.members += 1;
-        self.worst = self.worst.max(place);
+        self.worst_rank = self.worst_rank.max(rank);
     }
 
     /// Whether the programme has fewer members than the quota.
@@ -32,16 +32,16 @@ impl Load {
         self.members < quota
     }
 
-    /// Whether some member stands behind this place of the programme's list.
-    pub(crate) fn has_member_after(&self, place: u32) -> bool
-        ensures { IsTrue result ↔ (place < self.now.worst) }
+    /// Whether some member stands behind this rank of the programme's list.
+    pub(crate) fn has_member_after(&self, rank: u32) -> bool
+        ensures { IsTrue result ↔ (rank < self.now.worst_rank) }
     {
-        place < self.worst
+        rank < self.worst_rank
     }
 }
 
-/// The place of a resident on a programme's list. A resident who isn't listed gets the list's length.
-pub(crate) fn place_at(inst: &Instance, programme: ProgrammeNo, resident: ResidentNo) -> u32
+/// The rank of a resident on a programme's list. A resident who isn't listed gets the list's length.
+pub(crate) fn rank_or_length(inst: &Instance, programme: ProgrammeNo, resident: ResidentNo) -> u32
     requires { IsProgramme inst.now programme }
     ensures { result ≡ place_in (ranking_of_programme inst.now programme) resident }
 {
@@ -51,7 +51,7 @@ pub(crate) fn place_at(inst: &Instance, programme: ProgrammeNo, resident: Reside
     }
 }
 
-/// For each programme, how many members it has and the last place of one of them.
+/// For each programme, how many members it has and the last rank of one of them.
 pub(crate) fn loads(
     alloc: Global,
     inst: &Instance,
@@ -67,7 +67,7 @@ pub(crate) fn loads(
             continue;
         };
         if programme.0 < programmes {
-            loads[programme.0 as usize].add(place_at(inst, programme, resident));
+            loads[programme.0 as usize].add(rank_or_length(inst, programme, resident));
         }
     }
     Ok(loads)

@@ -50,14 +50,14 @@ pub fn first_unlike_result(
     ensures memory { IfErr result (λ fault. fault ≡ AuditFault.Memory) }
 {
     match settle(alloc, inst) {
-        Ok(settled) => Ok(first_difference(sheet, &settled)),
+        Ok(settled_assignment) => Ok(first_difference(sheet, &settled_assignment)),
         Err(fault) => Err(fault),
     }
 }
 
 /// Whether a sheet is the match's result, found without a journal. The only fault is out of memory.
 pub fn is_result(alloc: Global, inst: &Instance, sheet: &Assignment) -> Result<bool, AuditFault>
-    ensures exact { IfOk result (λ yes. IsTrue yes ↔ IsSettled inst.now sheet.now) }
+    ensures exact { IfOk result (λ is_same. IsTrue is_same ↔ IsSettled inst.now sheet.now) }
     ensures memory { IfErr result (λ fault. fault ≡ AuditFault.Memory) }
 {
     // For the proof alone: an instance has only one settled assignment.
@@ -78,14 +78,14 @@ fn offer_down_the_lists(core: &mut Core, inst: &Instance)
     ensures core { IsCoreOf inst.now core.new }
     ensures reached { IsReached inst.now core.new }
 {
-    for starter in 0..inst.programmes() {
-        let mut programme = ProgrammeNo(starter);
+    for first_number in 0..inst.programmes() {
+        let mut programme = ProgrammeNo(first_number);
         // Each turn enters an offer, or ends a chain of programmes that were released one after another.
         for _turn in 0..2 * inst.pairs() + 1 {
             match offer_once(core, inst, programme) {
                 Some(answered_programme) => programme = answered_programme,
-                None if programme.0 == starter => break,
-                None => programme = ProgrammeNo(starter),
+                None if programme.0 == first_number => break,
+                None => programme = ProgrammeNo(first_number),
             }
         }
     }
@@ -113,11 +113,11 @@ fn offer_once(core: &mut Core, inst: &Instance, programme: ProgrammeNo) -> Optio
     if !enter_event(core, inst, offer) || !enter_event(core, inst, take) {
         return None;
     }
-    let first_answered = answer_once(core, inst, resident)?;
+    let first_answered_programme = answer_once(core, inst, resident)?;
     // If the offer is held, the programme held until then is released.
     match answer_once(core, inst, resident) {
-        Some(second_answered) => Some(second_answered),
-        None => Some(first_answered),
+        Some(second_answered_programme) => Some(second_answered_programme),
+        None => Some(first_answered_programme),
     }
 }
 
@@ -154,7 +154,8 @@ fn enter_event(core: &mut Core, inst: &Instance, event: Event) -> bool
     requires reached { IsReached inst.now core.old }
     ensures core { IsCoreOf inst.now core.new }
     ensures reached { IsReached inst.now core.new }
-    ensures allowed { IsTrue result → (j : List Event) × IsAllowed inst.now Capacity.Full j event }
+    ensures allowed { IsTrue result
+        → (events : List Event) × IsAllowed inst.now Capacity.Full events event }
 {
     core.step(inst, event).is_ok()
 }
@@ -164,7 +165,8 @@ fn step_to_the_close(core: &mut Core, inst: &Instance)
     requires core { IsCoreOf inst.now core.old }
     requires reached { IsReached inst.now core.old }
     ensures core { IsCoreOf inst.now core.new }
-    ensures closed { (j : List Event) × Shows inst.now Capacity.Full j core.new × IsClosed j }
+    ensures closed { (events : List Event)
+        × Shows inst.now Capacity.Full events core.new × IsClosed events }
 {
     law_bound();
     for _turn in 0..6 * inst.pairs() + 2 {

@@ -41,8 +41,8 @@ pub fn with_command<'a>(
     command: Command<'a>,
 ) -> Result<Command<'a>, AllocError>
     requires { (app_of command).top.is_plain ≡ true }
-    ensures { IfOk result (λ extended.
-        app_of extended ≡ with_subcommand (app_of program.entry) (app_of command.entry).top) }
+    ensures { IfOk result (λ extended_program. app_of extended_program
+        ≡ with_subcommand (app_of program.entry) (app_of command.entry).top) }
 {
     program.subcommand(command)
 }

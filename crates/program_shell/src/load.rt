@@ -31,7 +31,7 @@ pub fn is_input(path: &str) -> bool
 }
 
 // The reason why the file with this path was not read.
-fn not_read<'a>(path: &'a str, error: io::Error) -> Unread<'a> {
+fn unread_file<'a>(path: &'a str, error: io::Error) -> Unread<'a> {
     match error.kind() {
         io::ErrorKind::OutOfMemory => Unread::Memory(path),
         _ => Unread::Unreadable(path),
@@ -49,7 +49,7 @@ pub fn load_input<'a, R: Read>(
     let mut bytes = Vec::new(alloc);
     match reader.read_to_end(&mut bytes) {
         Ok(_) => Ok(bytes),
-        Err(error) => Err(not_read(name, error)),
+        Err(error) => Err(unread_file(name, error)),
     }
 }
 
@@ -57,7 +57,7 @@ pub fn load_input<'a, R: Read>(
 pub fn load_path<'a, H: Files + AllocGlobal>(rt: &H, path: &'a str) -> Result<Vec<u8>, Unread<'a>> {
     match fs::read(rt, path) {
         Ok(bytes) => Ok(bytes),
-        Err(error) => Err(not_read(path, error)),
+        Err(error) => Err(unread_file(path, error)),
     }
 }
 
@@ -67,15 +67,15 @@ pub fn load_path_if<'a, H: Files + AllocGlobal>(
     rt: &H,
     path: Option<&'a str>,
 ) -> Result<Option<Vec<u8>>, Unread<'a>>
-    ensures { IfOk result (λ loaded.
-        is_some (option_map (λ bytes. bytes.items) loaded) ≡ is_some path.entry) }
+    ensures { IfOk result (λ loaded_bytes.
+        is_some (option_map (λ bytes. bytes.items) loaded_bytes) ≡ is_some path.entry) }
 {
     let Some(path) = path else {
         return Ok(None);
     };
     match load_path(rt, path) {
         Ok(bytes) => Ok(Some(bytes)),
-        Err(unread) => Err(unread),
+        Err(unread_file) => Err(unread_file),
     }
 }
 
@@ -104,8 +104,9 @@ pub fn load_if<'a, R: Read, H: Files + AllocGlobal>(
     path: Option<&'a str>,
     reader: &mut R,
 ) -> Result<Option<Vec<u8>>, Unread<'a>>
-    ensures bytes { IfOk result (λ loaded. AreBytesIf (option_map (λ path. path.now) path.entry)
-        (R.remaining reader.old) (option_map (λ bytes. bytes.items) loaded)) }
+    ensures bytes { IfOk result (λ loaded_bytes. AreBytesIf
+        (option_map (λ path. path.now) path.entry)
+        (R.remaining reader.old) (option_map (λ bytes. bytes.items) loaded_bytes)) }
     ensures kept { option_map (λ path. path.now) path.entry ≢ Some (codes "-")
         → R.remaining reader.new ≡ R.remaining reader.old }
 {
@@ -113,7 +114,7 @@ pub fn load_if<'a, R: Read, H: Files + AllocGlobal>(
         None => Ok(None),
         Some(path) => match load_file(rt, alloc, path, reader) {
             Ok(bytes) => Ok(Some(bytes)),
-            Err(unread) => Err(unread),
+            Err(unread_file) => Err(unread_file),
         },
     }
 }
@@ -129,9 +130,9 @@ pub fn lent(bytes: &Option<Vec<u8>>) -> Option<&[u8]>
 }
 
 /// Prints that a file was not read, and returns the exit status.
-pub fn refuse_unread<T: Eprint>(console: &T, unread: &Unread) -> ExitCode
+pub fn refuse_unread<T: Eprint>(console: &T, unread_file: &Unread) -> ExitCode
     ensures { exit_status_in result ≡ 1 }
 {
-    let _ = eprintln!(console; "residency: {unread}");
+    let _ = eprintln!(console; "residency: {unread_file}");
     ExitCode::from(1)
 }

@@ -11,11 +11,11 @@ use std::process::ExitCode;
 
 /// The texts of the words, or the fault that one of them is not valid text.
 pub fn texts_of(words: io::Result<Vec<String>>) -> Result<Vec<String>, UsageFault>
-    ensures texts { IfOk result (λ texts. words ≡ Ok texts) }
+    ensures texts { IfOk result (λ word_texts. words ≡ Ok word_texts) }
     ensures fault { IfErr result (IsTextFaultOf words) }
 {
     match words {
-        Ok(texts) => Ok(texts),
+        Ok(word_texts) => Ok(word_texts),
         Err(error) if error.kind() == io::ErrorKind::OutOfMemory => {
             Err(UsageFault::Line(LineFault::Memory))
         }

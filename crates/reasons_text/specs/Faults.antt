@@ -72,7 +72,7 @@ IsNameFault names side text fault = (fault ≡ Docket docket.Memory)
 
 -- why a question has no answer: one of its names does not mean exactly one member
 abbrev pub IsAskedFault : Naming → Asked → WhyFault → Type 0
-IsAskedFault names asked.All fault = ⊥
+IsAskedFault names asked.AllResidents fault = ⊥
 IsAskedFault names (asked.Resident name) fault = IsNameFault names Residents name.now fault
 IsAskedFault names (asked.Pair resident programme) fault =
     IsNameFault names Residents resident.now fault ⊎ IsNameFault names Programmes programme.now fault

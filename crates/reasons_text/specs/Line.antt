@@ -25,13 +25,13 @@ why_app = with_rule (with_rule flagged_app (value_rule (codes "key"))) (value_ru
 -- The question that a resident's name, and perhaps a programme's name, on a command line ask. Such a question is
 -- never about all.
 abbrev pub IsAskedBy : Option Text → Option Text → Asked → Type 0
-IsAskedBy resident programme asked.All = ⊥
+IsAskedBy resident programme asked.AllResidents = ⊥
 IsAskedBy resident programme (asked.Resident name) = (resident ≡ Some name.now) × (programme ≡ None)
 IsAskedBy resident programme (asked.Pair name other) = (resident ≡ Some name.now) × (programme ≡ Some other.now)
 
 -- the values on the command line ask this question
 pub record GivesQuestion (rows : List Row) (question : Question) : Type 0 where
-  pub all : IsFlagged (codes "all") rows → question.asked ≡ asked.All
+  pub all : IsFlagged (codes "all") rows → question.asked ≡ asked.AllResidents
   pub one : IsUnflagged (codes "all") rows → IsAskedBy (first_of (codes "resident") rows) (first_of (codes "programme") rows) question.asked
   pub without_ranks : IsFlagged (codes "without-ranks") rows → question.without_ranks ≡ true
   pub with_ranks : IsUnflagged (codes "without-ranks") rows → question.without_ranks ≡ false

@@ -19,7 +19,7 @@ use Rattle.reasons_text.specs.declared.side.Side.TheVariants.{Programmes, Reside
 use Rattle.reasons_text.specs.Table.{columns, rows_on}
 use Rattle.reasons_text.specs.Told.{IsTold}
 use Rattle.reasons_text.specs.declared.answering.AskedMembers.{AskedMembers as Told}
-use Rattle.reasons_text.specs.declared.answering.AskedMembers.TheVariants.{All, Resident, Pair}
+use Rattle.reasons_text.specs.declared.answering.AskedMembers.TheVariants.{AllResidents, Resident, Pair}
 use Rattle.reasons_text.specs.declared.question.Asked.{Asked}
 use Rattle.reasons_text.specs.declared.question.Asked.TheVariants as asked
 
@@ -60,21 +60,21 @@ pub record IsTable (c : CaseParts) (names : Naming) (without_ranks : Bool) (text
 
 -- the text for the residents and programmes that the question is about
 abbrev pub IsTextOf : CaseParts → Naming → Bool → Told → List ℕ → Type 0
-IsTextOf c names without_ranks All text = IsTable c names without_ranks text
+IsTextOf c names without_ranks AllResidents text = IsTable c names without_ranks text
 IsTextOf c names without_ranks (Resident r) text = IsTextOn c names without_ranks r text
 IsTextOf c names without_ranks (Pair r p) text = IsLineOn c names without_ranks r p text
 
 -- The question is about all residents, about the only resident whom its name means, or about the only resident and the
 -- only programme that its names mean.
 abbrev pub Asks : Naming → Asked → Told → Type 0
-Asks names asked.All All = Unit {0}
+Asks names asked.AllResidents AllResidents = Unit {0}
 Asks names (asked.Resident name) (Resident r) = MeansAlone names Residents name.now r
 Asks names (asked.Pair resident programme) (Pair r p) = MeansAlone names Residents resident.now r × MeansAlone names Programmes programme.now p
 Asks names question told = ⊥
 
 -- each name of the question is a name of the docket itself
 abbrev pub AsksByDocket : Contents → Asked → Told → Type 0
-AsksByDocket docket asked.All All = Unit {0}
+AsksByDocket docket asked.AllResidents AllResidents = Unit {0}
 AsksByDocket docket (asked.Resident name) (Resident r) = resident_name docket r ≡ name.now
 AsksByDocket docket (asked.Pair resident programme) (Pair r p) = (resident_name docket r ≡ resident.now) × (programme_name docket p ≡ programme.now)
 AsksByDocket docket question told = ⊥

@@ -34,10 +34,10 @@ struct AnswerManner<'a> {
     without_ranks: bool,
 }
 
-// Whom the question is about: everybody, a resident, or a resident and a programme, by their numbers.
+// Whom the question is about: all residents, a resident, or a resident and a programme, by their numbers.
 #[derive(Clone, Copy)]
 enum AskedMembers {
-    All,
+    AllResidents,
     Resident(ResidentNo),
     Pair(ResidentNo, ProgrammeNo),
 }
@@ -45,24 +45,24 @@ enum AskedMembers {
 // Adds one line for each of these programmes. Reason `i` goes into the line about programme `i`.
 fn push_each(
     alloc: Global,
-    text: &mut String,
+    answer_lines: &mut String,
     manner: &AnswerManner,
     resident: ResidentNo,
     programmes: &[ProgrammeNo],
     reasons: &[Why],
 ) -> Result<(), AllocError>
     requires { length reasons.now ≡ length programmes.now }
-    ensures { OnOk result (string_bytes text.new ≡ string_bytes text.old ++ lines
+    ensures { OnOk result (string_bytes answer_lines.new ≡ string_bytes answer_lines.old ++ lines
         (naming_of manner.now.names) manner.now.without_ranks resident programmes.now reasons.now) }
 {
-    for place in 0..programmes.len() {
+    for choice_index in 0..programmes.len() {
         push_line(
             alloc,
-            text,
+            answer_lines,
             &manner.names,
             resident,
-            programmes[place],
-            reasons[place],
+            programmes[choice_index],
+            reasons[choice_index],
             manner.without_ranks,
         )?;
     }
@@ -72,7 +72,7 @@ fn push_each(
 // Adds the first line about a resident, and one line for each programme on the resident's list.
 fn push_lines(
     alloc: Global,
-    text: &mut String,
+    answer_lines: &mut String,
     case: &Case,
     manner: &AnswerManner,
     resident: ResidentNo,
@@ -80,22 +80,22 @@ fn push_lines(
     requires { IsResident case.now.docket.instance resident }
     ensures { OnOk result (AppendsText
         (IsTextOn case.now (naming_of manner.now.names) manner.now.without_ranks resident)
-        (Some (string_bytes text.old)) (Some (string_bytes text.new))) }
+        (Some (string_bytes answer_lines.old)) (Some (string_bytes answer_lines.new))) }
 {
     let answers = case.answers(alloc, resident)?;
-    let list = answers.programmes.as_slice();
+    let programmes = answers.programmes.as_slice();
     let reasons = answers.reasons.as_slice();
     let own_programme = case.place_of(resident);
     push_first_line(
         alloc,
-        text,
+        answer_lines,
         &manner.names,
         resident,
         own_programme,
-        list,
+        programmes,
         reasons,
     )?;
-    push_each(alloc, text, manner, resident, list, reasons)
+    push_each(alloc, answer_lines, manner, resident, programmes, reasons)
 }
 
 // Adds one row for each of these programmes. Reason `i` goes into the row about programme `i`.
@@ -110,14 +110,14 @@ fn push_rows<W: Write>(
     ensures { OnOk result (Adds W.contents rows.old rows.new (rows_on (naming_of manner.now.names)
         manner.now.without_ranks resident programmes.now reasons.now)) }
 {
-    for k in 0..programmes.len() {
+    for row_index in 0..programmes.len() {
         push_row(
             rows,
             &manner.names,
             resident,
-            k + 1,
-            programmes[k],
-            &reasons[k],
+            row_index + 1,
+            programmes[row_index],
+            &reasons[row_index],
             manner.without_ranks,
         )?;
     }
@@ -194,9 +194,9 @@ fn table_of(alloc: Global, case: &Case, manner: &AnswerManner) -> Result<Vec<u8>
     ensures { IfOk result (λ text.
         IsTable case.now (naming_of manner.now.names) manner.now.without_ranks text.items) }
 {
-    let mut text = Vec::new(alloc);
-    match write_table(alloc, &mut text, case, manner) {
-        Ok(()) => Ok(text),
+    let mut table_text = Vec::new(alloc);
+    match write_table(alloc, &mut table_text, case, manner) {
+        Ok(()) => Ok(table_text),
         Err(_) => Err(AllocError),
     }
 }
@@ -212,9 +212,9 @@ fn lines_of(
     ensures { IfOk result (λ text. IsTextOn case.now
         (naming_of manner.now.names) manner.now.without_ranks resident text.items) }
 {
-    let mut text = String::new(alloc);
-    push_lines(alloc, &mut text, case, manner, resident)?;
-    Ok(text.into_bytes())
+    let mut answer_lines = String::new(alloc);
+    push_lines(alloc, &mut answer_lines, case, manner, resident)?;
+    Ok(answer_lines.into_bytes())
 }
 
 // The line that answers a question about a resident and a programme.
@@ -231,17 +231,17 @@ fn line_of(
         (naming_of manner.now.names) manner.now.without_ranks resident programme text.items) }
 {
     let reason = case.reason(resident, programme);
-    let mut text = String::new(alloc);
+    let mut answer_line = String::new(alloc);
     push_line(
         alloc,
-        &mut text,
+        &mut answer_line,
         &manner.names,
         resident,
         programme,
         reason,
         manner.without_ranks,
     )?;
-    Ok(text.into_bytes())
+    Ok(answer_line.into_bytes())
 }
 
 // The text that answers the question, whose names were replaced by the members' numbers.
@@ -256,7 +256,7 @@ fn answer_text(
         IsTextOf case.now (naming_of manner.now.names) manner.now.without_ranks whom text.items) }
 {
     match whom {
-        AskedMembers::All => table_of(alloc, case, manner),
+        AskedMembers::AllResidents => table_of(alloc, case, manner),
         AskedMembers::Resident(resident) => lines_of(alloc, case, manner, resident),
         AskedMembers::Pair(resident, programme) => line_of(
             alloc, case, manner, resident, programme,
@@ -286,7 +286,7 @@ fn members_asked(alloc: Global, names: &Names, asked: Asked) -> Result<AskedMemb
     ensures fault { IfErr result (IsAskedFault (naming_of names.now) asked.entry) }
 {
     match asked {
-        Asked::All => Ok(AskedMembers::All),
+        Asked::AllResidents => Ok(AskedMembers::AllResidents),
         Asked::Resident(resident) => {
             let resident = member_named(alloc, names, Side::Residents, resident)?;
             Ok(AskedMembers::Resident(ResidentNo(resident)))
@@ -396,11 +396,11 @@ pub fn serve_why_within<R: Read + Drop, W: Write, H: RandomSource>(
     ensures before { IfErr result (λ fault. fault ≢ WhyFault.Docket DocketFault.Write
         → writer.new ≡ writer.old) }
 {
-    let text = match read_and_tell(rt, alloc, limits, reader, asked, without_ranks, key_bytes) {
-        Ok(text) => text,
+    let answer = match read_and_tell(rt, alloc, limits, reader, asked, without_ranks, key_bytes) {
+        Ok(answer) => answer,
         Err(fault) => return Err(fault),
     };
-    match writer.write_all(text.as_slice()) {
+    match writer.write_all(answer.as_slice()) {
         Ok(()) => Ok(()),
         Err(_) => Err(WhyFault::Docket(DocketFault::Write)),
     }
@@ -424,6 +424,6 @@ fn read_and_tell<R: Read + Drop, H: RandomSource>(
     let Ok(hash_keys) = RandomState::new(rt) else {
         return Err(WhyFault::Docket(DocketFault::Read { place: 1 }));
     };
-    let case = Case::read_within(rt, alloc, limits, reader, asked == Asked::All)?;
+    let case = Case::read_within(rt, alloc, limits, reader, asked == Asked::AllResidents)?;
     text_of(alloc, hash_keys, &case, key_bytes, asked, without_ranks)
 }

@@ -27,7 +27,7 @@ use std::random::RandomSource;
 /// or for all, how their places are taken.
 pub struct Case {
     docket: Docket,
-    lists: WrittenLists,
+    written_lists: WrittenLists,
     taken_places: Vec<Taken>,
 }
 
@@ -37,11 +37,11 @@ impl Model for Case {
 
     ghost Value = { CaseParts };
 
-    ghost view = { λ c.
-        case_of c.docket (unwrap_or c.docket.sheet []) c.lists c.taken_places.items };
+    ghost view = { λ case. case_of case.docket (unwrap_or case.docket.sheet [])
+        case.written_lists case.taken_places.items };
 
-    ghost invariant = { λ c.
-        IsCase (case_of c.docket (unwrap_or c.docket.sheet []) c.lists c.taken_places.items) };
+    ghost invariant = { λ case. IsCase (case_of case.docket (unwrap_or case.docket.sheet [])
+        case.written_lists case.taken_places.items) };
 }
 
 // One function drops the whole case: callers prove nothing about its parts.
@@ -49,7 +49,7 @@ impl Drop for Case {
     fn drop(self) {
         let Case {
             docket: _,
-            lists: _,
+            written_lists: _,
             taken_places: _,
         } = self;
     }
@@ -57,18 +57,18 @@ impl Drop for Case {
 
 // How a programme's places are taken: looked up if this was counted before, else counted now.
 fn taken_of(
-    listed: &Listed,
+    listed_instance: &Listed,
     sheet: &Assignment,
     taken_places: &[Taken],
     programme: ProgrammeNo,
 ) -> Taken
-    requires { AreTaken listed.now.written sheet.now taken_places.now }
+    requires { AreTaken listed_instance.now.written sheet.now taken_places.now }
     ensures { IsTaken
-        (list_at listed.now.written.programme_lists programme) sheet.now programme result }
+        (list_at listed_instance.now.written.programme_lists programme) sheet.now programme result }
 {
     match taken_places.get(programme.0 as usize) {
-        Some(taken) => *taken,
-        None => places_taken(listed, sheet, programme),
+        Some(programme_places) => *programme_places,
+        None => places_taken(listed_instance, sheet, programme),
     }
 }
 
@@ -76,35 +76,41 @@ fn taken_of(
 fn reason_from(
     docket: &Docket,
     sheet: &Assignment,
-    lists: &WrittenLists,
+    written_lists: &WrittenLists,
     taken_places: &[Taken],
     resident: ResidentNo,
     programme: ProgrammeNo,
 ) -> Why
-    requires case { IsCase (case_of docket.now sheet.now lists.now taken_places.now) }
+    requires case { IsCase (case_of docket.now sheet.now written_lists.now taken_places.now) }
     requires resident { IsResident docket.now.instance resident }
     requires programme { IsProgramme docket.now.instance programme }
-    ensures { IsAnswer
-        (case_of docket.now sheet.now lists.now taken_places.now) resident programme result }
+    ensures { IsAnswer (case_of docket.now sheet.now written_lists.now taken_places.now)
+        resident programme result }
 {
-    let listed = Listed::new(docket.instance(), lists);
-    let taken = taken_of(&listed, sheet, taken_places, programme);
-    why(&listed, sheet, &taken, resident, programme)
+    let listed_instance = Listed::new(docket.instance(), written_lists);
+    let programme_places = taken_of(&listed_instance, sheet, taken_places, programme);
+    why(
+        &listed_instance,
+        sheet,
+        &programme_places,
+        resident,
+        programme,
+    )
 }
 
 // How many residents the sheet matches with a programme.
 fn filled_from(
     docket: &Docket,
     sheet: &Assignment,
-    lists: &WrittenLists,
+    written_lists: &WrittenLists,
     taken_places: &[Taken],
     programme: ProgrammeNo,
 ) -> u32
-    requires { IsCase (case_of docket.now sheet.now lists.now taken_places.now) }
+    requires { IsCase (case_of docket.now sheet.now written_lists.now taken_places.now) }
     ensures { result ≡ member_count sheet.now programme }
 {
-    let listed = Listed::new(docket.instance(), lists);
-    taken_of(&listed, sheet, taken_places, programme).members
+    let listed_instance = Listed::new(docket.instance(), written_lists);
+    taken_of(&listed_instance, sheet, taken_places, programme).members
 }
 
 // The answers for a resident about each programme on the resident's list.
@@ -112,28 +118,36 @@ fn answers_from(
     alloc: Global,
     docket: &Docket,
     sheet: &Assignment,
-    lists: &WrittenLists,
+    written_lists: &WrittenLists,
     taken_places: &[Taken],
     resident: ResidentNo,
 ) -> Result<Answers, AllocError>
-    requires case { IsCase (case_of docket.now sheet.now lists.now taken_places.now) }
+    requires case { IsCase (case_of docket.now sheet.now written_lists.now taken_places.now) }
     requires resident { IsResident docket.now.instance resident }
-    ensures first { IfOk result (λ answers. AreAnswers (case_of docket.now sheet.now
-        lists.now taken_places.now) resident answers.programmes.items answers.reasons.items) }
+    ensures first { IfOk result (λ answers. AreAnswers
+        (case_of docket.now sheet.now written_lists.now taken_places.now)
+        resident answers.programmes.items answers.reasons.items) }
     ensures record { IfOk result (λ answers.
-        AreOfRecord docket.now lists.now resident answers.programmes.items) }
+        AreOfRecord docket.now written_lists.now resident answers.programmes.items) }
 {
     // For the proof alone: the docket has a name for each member, and its sheet names only
     // members.
     let _inst = docket.instance();
     let mut programmes = Vec::new(alloc);
     let mut reasons = Vec::new(alloc);
-    for place in 0..lists.listed_by_resident(resident) {
-        let Some(programme) = lists.choice(resident, place) else {
+    for choice_index in 0..written_lists.listed_by_resident(resident) {
+        let Some(programme) = written_lists.choice(resident, choice_index) else {
             unreachable!("the list is so long");
         };
         programmes.push(programme)?;
-        reasons.push(reason_from(docket, sheet, lists, taken_places, resident, programme))?;
+        reasons.push(reason_from(
+            docket,
+            sheet,
+            written_lists,
+            taken_places,
+            resident,
+            programme,
+        ))?;
     }
     Ok(Answers {
         programmes,
@@ -172,7 +186,12 @@ impl Case {
         ensures fault { IfErr result (IsCaseFaultWithin limits (R.remaining reader)) }
     {
         match read_docket_with_lists_within(rt, alloc, limits, reader) {
-            Ok((docket, lists)) => Case::of_docket(alloc, docket, lists, are_all_residents_asked),
+            Ok((docket, written_lists)) => Case::of_docket(
+                alloc,
+                docket,
+                written_lists,
+                are_all_residents_asked,
+            ),
             Err(fault) => Err(WhyFault::Reading(fault)),
         }
     }
@@ -184,20 +203,20 @@ impl Case {
         rt: &H,
         alloc: Global,
         limits: Limits,
-        docket: &[u8],
-        sheet: &[u8],
+        docket_bytes: &[u8],
+        sheet_bytes: &[u8],
         are_all_residents_asked: bool,
     ) -> Result<Case, WhyFault>
         ensures read { IfOk result (λ case. IsInFilesWithLists
-            limits docket.now sheet.now [] case.docket case.written) }
+            limits docket_bytes.now sheet_bytes.now [] case.docket case.written) }
         ensures sheet { IfOk result (λ case. case.docket.sheet ≡ Some case.sheet) }
-        ensures fault { IfErr result (IsFilesCaseFault limits docket.now sheet.now) }
+        ensures fault { IfErr result (IsFilesCaseFault limits docket_bytes.now sheet_bytes.now) }
     {
-        match read_parts_with_lists(rt, alloc, limits, docket, sheet, &[]) {
-            Ok((docket, lists, _)) => match Case::of_docket(
+        match read_parts_with_lists(rt, alloc, limits, docket_bytes, sheet_bytes, &[]) {
+            Ok((docket, written_lists, _)) => match Case::of_docket(
                 alloc,
                 docket,
-                lists,
+                written_lists,
                 are_all_residents_asked,
             ) {
                 Ok(case) => Ok(case),
@@ -212,11 +231,12 @@ impl Case {
     pub fn of_docket(
         alloc: Global,
         docket: Docket,
-        lists: WrittenLists,
+        written_lists: WrittenLists,
         are_all_residents_asked: bool,
     ) -> Result<Case, WhyFault>
-        requires { WasRead docket lists }
-        ensures parts { IfOk result (λ case. (case.docket ≡ docket) × (case.written ≡ lists)) }
+        requires { WasRead docket written_lists }
+        ensures parts { IfOk result (λ case.
+            (case.docket ≡ docket) × (case.written ≡ written_lists)) }
         ensures sheet { IfOk result (λ case. case.docket.sheet ≡ Some case.sheet) }
         ensures fault { IfErr result (IsOfNoCase docket) }
     {
@@ -228,11 +248,11 @@ impl Case {
         } else {
             0
         };
-        let listed = Listed::new(docket.instance(), &lists);
-        let taken_places = all_places_taken(alloc, &listed, sheet, programmes)?;
+        let listed_instance = Listed::new(docket.instance(), &written_lists);
+        let taken_places = all_places_taken(alloc, &listed_instance, sheet, programmes)?;
         Ok(Case {
             docket,
-            lists,
+            written_lists,
             taken_places,
         })
     }
@@ -258,7 +278,7 @@ impl Case {
     pub fn written(&self) -> &WrittenLists
         ensures { result.now ≡ self.now.written }
     {
-        &self.lists
+        &self.written_lists
     }
 
     /// The programme with which the sheet matches a resident, or none.
@@ -275,8 +295,14 @@ impl Case {
     pub fn filled(&self, programme: ProgrammeNo) -> u32
         ensures { result ≡ member_count self.now.sheet programme }
     {
-        let places = self.taken_places.as_slice();
-        filled_from(&self.docket, self.sheet(), &self.lists, places, programme)
+        let taken_places = self.taken_places.as_slice();
+        filled_from(
+            &self.docket,
+            self.sheet(),
+            &self.written_lists,
+            taken_places,
+            programme,
+        )
     }
 
     /// The answer for a resident about one programme: the first of the possible answers that is true.
@@ -289,7 +315,7 @@ impl Case {
         reason_from(
             &self.docket,
             self.sheet(),
-            &self.lists,
+            &self.written_lists,
             taken_places,
             resident,
             programme,
@@ -312,7 +338,7 @@ impl Case {
             alloc,
             &self.docket,
             self.sheet(),
-            &self.lists,
+            &self.written_lists,
             taken_places,
             resident,
         )

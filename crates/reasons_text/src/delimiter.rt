@@ -68,11 +68,11 @@ impl Marks {
 }
 
 // The counts of the first line that has a mark outside quotes.
-fn marks_of(bytes: &[u8]) -> Marks
-    ensures { result ≡ spec.marks_of spec.no_marks bytes.now }
+fn marks_of(key_bytes: &[u8]) -> Marks
+    ensures { result ≡ spec.marks_of spec.no_marks key_bytes.now }
 {
     let mut marks = Marks::none();
-    for byte in bytes {
+    for byte in key_bytes {
         if marks.ends_line(*byte) {
             return marks;
         }
@@ -83,8 +83,8 @@ fn marks_of(bytes: &[u8]) -> Marks
 
 /// The mark that separates the fields of a key: comma, semicolon or tab. The first line with one of these marks outside
 /// quotes decides. The mark that is most frequent in this line is the answer.
-pub(crate) fn delimiter_of(bytes: &[u8]) -> u8
-    ensures { result ≡ spec.delimiter_of bytes.now }
+pub(crate) fn delimiter_of(key_bytes: &[u8]) -> u8
+    ensures { result ≡ spec.delimiter_of key_bytes.now }
 {
-    marks_of(bytes).chosen_mark()
+    marks_of(key_bytes).chosen_mark()
 }

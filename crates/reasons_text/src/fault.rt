@@ -22,16 +22,16 @@ pub enum WhyFault {
     #[error("no sheet in the docket")]
     NoSheet,
     /// A row of the key does not begin with a side, a name and a real name.
-    #[error("record {place} of the key: not a side, a name and a real name")]
+    #[error("record {row_number} of the key: not a side, a name and a real name")]
     BadKey {
-        /// The number of the record, from 1.
-        place: u64,
+        /// The number of the row, from 1.
+        row_number: u64,
     },
     /// An earlier row of the key has the same member.
-    #[error("record {place} of the key: that member has a row before")]
+    #[error("record {row_number} of the key: that member has a row before")]
     DoubledKey {
-        /// The number of the record, from 1.
-        place: u64,
+        /// The number of the row, from 1.
+        row_number: u64,
     },
     /// No resident has a name of the question. The text is the message for the user.
     #[error("{0}")]

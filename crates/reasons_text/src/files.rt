@@ -19,15 +19,15 @@ fn read_files_and_tell<H: RandomSource>(
     rt: &H,
     alloc: Global,
     limits: Limits,
-    docket: &[u8],
-    sheet: &[u8],
+    docket_bytes: &[u8],
+    sheet_bytes: &[u8],
     asked: Asked,
     without_ranks: bool,
     key_bytes: Option<&[u8]>,
 ) -> Result<Vec<u8>, WhyFault>
-    ensures text { IfOk result (λ text. AnswersFilesWithin limits docket.now sheet.now
+    ensures text { IfOk result (λ text. AnswersFilesWithin limits docket_bytes.now sheet_bytes.now
         (option_copied key_bytes.entry) asked.entry without_ranks text.items) }
-    ensures fault { IfErr result (IsFilesTellFault limits docket.now sheet.now
+    ensures fault { IfErr result (IsFilesTellFault limits docket_bytes.now sheet_bytes.now
         (option_copied key_bytes.entry) asked.entry) }
 {
     let Ok(hash_keys) = RandomState::new(rt) else {
@@ -36,7 +36,14 @@ fn read_files_and_tell<H: RandomSource>(
             fault: RecordsFault::Docket(DocketFault::Read { place: 1 }),
         });
     };
-    let case = Case::read_files(rt, alloc, limits, docket, sheet, asked == Asked::All)?;
+    let case = Case::read_files(
+        rt,
+        alloc,
+        limits,
+        docket_bytes,
+        sheet_bytes,
+        asked == Asked::AllResidents,
+    )?;
     text_of(alloc, hash_keys, &case, key_bytes, asked, without_ranks)
 }
 
@@ -46,18 +53,18 @@ fn read_files_and_tell<H: RandomSource>(
 pub fn serve_why_files<W: Write, H: RandomSource>(
     rt: &H,
     alloc: Global,
-    docket: &[u8],
-    sheet: &[u8],
+    docket_bytes: &[u8],
+    sheet_bytes: &[u8],
     writer: &mut W,
     asked: Asked,
     without_ranks: bool,
     key_bytes: Option<&[u8]>,
 ) -> Result<(), WhyFault>
-    ensures text { OnOk result (AppendsText (AnswersFiles docket.now sheet.now
+    ensures text { OnOk result (AppendsText (AnswersFiles docket_bytes.now sheet_bytes.now
         (option_copied key_bytes.entry) asked.entry without_ranks)
         (W.contents writer.old) (W.contents writer.new)) }
-    ensures fault { IfErr result
-        (IsFilesFault docket.now sheet.now (option_copied key_bytes.entry) asked.entry) }
+    ensures fault { IfErr result (IsFilesFault docket_bytes.now sheet_bytes.now
+        (option_copied key_bytes.entry) asked.entry) }
     ensures before { IfErr result (λ fault. fault ≢ WhyFault.Docket DocketFault.Write
         → writer.new ≡ writer.old) }
 {
@@ -65,8 +72,8 @@ pub fn serve_why_files<W: Write, H: RandomSource>(
         rt,
         alloc,
         Limits::Standard,
-        docket,
-        sheet,
+        docket_bytes,
+        sheet_bytes,
         writer,
         asked,
         without_ranks,
@@ -79,35 +86,36 @@ pub fn serve_why_files_within<W: Write, H: RandomSource>(
     rt: &H,
     alloc: Global,
     limits: Limits,
-    docket: &[u8],
-    sheet: &[u8],
+    docket_bytes: &[u8],
+    sheet_bytes: &[u8],
     writer: &mut W,
     asked: Asked,
     without_ranks: bool,
     key_bytes: Option<&[u8]>,
 ) -> Result<(), WhyFault>
-    ensures text { OnOk result (AppendsText (AnswersFilesWithin limits docket.now sheet.now
+    ensures text { OnOk result (AppendsText
+        (AnswersFilesWithin limits docket_bytes.now sheet_bytes.now
         (option_copied key_bytes.entry) asked.entry without_ranks)
         (W.contents writer.old) (W.contents writer.new)) }
-    ensures fault { IfErr result (IsFilesFaultWithin limits docket.now sheet.now
+    ensures fault { IfErr result (IsFilesFaultWithin limits docket_bytes.now sheet_bytes.now
         (option_copied key_bytes.entry) asked.entry) }
     ensures before { IfErr result (λ fault. fault ≢ WhyFault.Docket DocketFault.Write
         → writer.new ≡ writer.old) }
 {
-    let text = match read_files_and_tell(
+    let answer = match read_files_and_tell(
         rt,
         alloc,
         limits,
-        docket,
-        sheet,
+        docket_bytes,
+        sheet_bytes,
         asked,
         without_ranks,
         key_bytes,
     ) {
-        Ok(text) => text,
+        Ok(answer) => answer,
         Err(fault) => return Err(fault),
     };
-    match writer.write_all(text.as_slice()) {
+    match writer.write_all(answer.as_slice()) {
         Ok(()) => Ok(()),
         Err(_) => Err(WhyFault::Docket(DocketFault::Write)),
     }

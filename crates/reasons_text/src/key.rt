@@ -52,12 +52,12 @@ fn empty_texts(alloc: Global, text_count: u32) -> Result<Vec<String>, AllocError
     Ok(texts)
 }
 
-/// The text at index `place`, or none if this text is empty or missing.
+/// The text at index `number`, or none if this text is empty or missing.
 #[tactic(auto, unfolding(crate::specs::Naming::text_at))]
-pub(crate) fn text_in(texts: &[String], place: usize) -> Option<&str>
-    ensures { option_copied result ≡ text_at (map string_bytes texts.now) place }
+pub(crate) fn text_in(member_texts: &[String], number: usize) -> Option<&str>
+    ensures { option_copied result ≡ text_at (map string_bytes member_texts.now) number }
 {
-    match texts.get(place) {
+    match member_texts.get(number) {
         Some(text) if !text.is_empty() => Some(text.as_str()),
         _ => None,
     }
@@ -73,11 +73,11 @@ pub(crate) fn label_text(alloc: Global, name: &str, sign: &str) -> Result<String
 
 // A field of a row in the form in which it is shown, or none if the field's bytes are no text.
 #[tactic(auto, using(crate::proofs::TextFacts::is_text, crate::proofs::TextFacts::no_text))]
-fn row_text(alloc: Global, text: &[u8]) -> Result<Option<String>, AllocError>
+fn row_text(alloc: Global, field_bytes: &[u8]) -> Result<Option<String>, AllocError>
     ensures { IfOk result (λ shown. option_map string_bytes shown
-        ≡ (if is_utf8 text.now then Some (shown_text text.now) else None)) }
+        ≡ (if is_utf8 field_bytes.now then Some (shown_text field_bytes.now) else None)) }
 {
-    let Ok(text) = str::from_utf8(text) else {
+    let Ok(text) = str::from_utf8(field_bytes) else {
         return Ok(None);
     };
     let mut shown = String::new(alloc);
@@ -106,10 +106,10 @@ pub(crate) fn side_of_row(row: &ByteRecord) -> Option<Side>
 }
 
 // Whether `were_blank` is true and this text is empty.
-fn still_blank(were_blank: bool, text: &[u8]) -> bool
-    ensures { result ≡ (were_blank && length text.now == 0) }
+fn still_blank(were_blank: bool, field_bytes: &[u8]) -> bool
+    ensures { result ≡ (were_blank && length field_bytes.now == 0) }
 {
-    were_blank && text.is_empty()
+    were_blank && field_bytes.is_empty()
 }
 
 // Whether all fields of a row are empty.
@@ -123,13 +123,13 @@ fn is_blank(row: &ByteRecord) -> bool
     are_all_blank
 }
 
-// Puts a text at index `place`, if there is such an index.
-fn put(texts: &mut Vec<String>, place: usize, text: String)
-    ensures { map string_bytes texts.new.items
-        ≡ slice_set (map string_bytes texts.old.items) place (string_bytes text) }
+// Puts a text at index `number`, if there is such an index.
+fn put(member_texts: &mut Vec<String>, number: usize, member_text: String)
+    ensures { map string_bytes member_texts.new.items
+        ≡ slice_set (map string_bytes member_texts.old.items) number (string_bytes member_text) }
 {
-    if let Some(slot) = texts.get_mut(place) {
-        *slot = text;
+    if let Some(slot) = member_texts.get_mut(number) {
+        *slot = member_text;
     }
 }
 
@@ -190,28 +190,28 @@ impl SideKey {
         numbers: &MemberNumbers,
         side: Side,
         row: &ByteRecord,
-        place: u64,
+        row_number: u64,
     ) -> Result<(), WhyFault>
         requires { AreNumbers numbers.now }
         ensures row { OnOk result (side_of self.new
             ≡ with_row numbers.now.docket.now side (fields_of row.now) (side_of self.old)) }
         ensures faultless { OnOk result (side_fault numbers.now.docket.now side
-            (side_of self.old) place (fields_of row.now) ≡ None) }
-        ensures fault { IfErr result (IsFaultOrMemory
-            (side_fault numbers.now.docket.now side (side_of self.old) place (fields_of row.now))) }
+            (side_of self.old) row_number (fields_of row.now) ≡ None) }
+        ensures fault { IfErr result (IsFaultOrMemory (side_fault
+            numbers.now.docket.now side (side_of self.old) row_number (fields_of row.now))) }
     {
         if field(row, 1).is_empty() || field(row, 2).is_empty() {
-            return Err(WhyFault::BadKey { place });
+            return Err(WhyFault::BadKey { row_number });
         }
         let number = numbers.number(side, field(row, 1));
         if !self.lacks_name(number) {
-            return Err(WhyFault::DoubledKey { place });
+            return Err(WhyFault::DoubledKey { row_number });
         }
         let Some(name) = row_text(alloc, field(row, 2))? else {
-            return Err(WhyFault::BadKey { place });
+            return Err(WhyFault::BadKey { row_number });
         };
         let Some(sign) = row_text(alloc, sign_of_row(row))? else {
-            return Err(WhyFault::BadKey { place });
+            return Err(WhyFault::BadKey { row_number });
         };
         self.note(number, name, sign)?;
         Ok(())
@@ -259,14 +259,14 @@ impl Key {
         alloc: Global,
         hash_keys: RandomState,
         docket: &Docket,
-        bytes: &[u8],
+        key_bytes: &[u8],
     ) -> Result<Key, WhyFault>
-        ensures key { IfOk result (λ key. IsKeyOf docket.now bytes.now (both_of key)) }
-        ensures fault { IfErr result (IsKeyFault docket.now bytes.now) }
+        ensures key { IfOk result (λ key. IsKeyOf docket.now key_bytes.now (both_of key)) }
+        ensures fault { IfErr result (IsKeyFault docket.now key_bytes.now) }
     {
         let numbers = MemberNumbers::of(alloc, hash_keys, docket)?;
         let mut key = Key::unnamed(alloc, docket)?;
-        key.add_all(alloc, &numbers, bytes)?;
+        key.add_all(alloc, &numbers, key_bytes)?;
         let resident_labels = labels(alloc, hash_keys, docket, Side::Residents, &key.residents)?;
         let programme_labels = labels(alloc, hash_keys, docket, Side::Programmes, &key.programmes)?;
         key.residents.labels = resident_labels;
@@ -279,15 +279,15 @@ impl Key {
         &mut self,
         alloc: Global,
         numbers: &MemberNumbers,
-        bytes: &[u8],
+        key_bytes: &[u8],
     ) -> Result<(), WhyFault>
         requires { AreNumbers numbers.now }
         ensures all { OnOk result
-            (AddsAll numbers.now.docket.now bytes.now (both_of self.old) (both_of self.new)) }
+            (AddsAll numbers.now.docket.now key_bytes.now (both_of self.old) (both_of self.new)) }
         ensures fault { IfErr result (λ fault. (fault ≡ WhyFault.Docket DocketFault.Memory)
-            ⊎ HasBadRow numbers.now.docket.now (both_of self.old) bytes.now fault) }
+            ⊎ HasBadRow numbers.now.docket.now (both_of self.old) key_bytes.now fault) }
     {
-        let mut reader = reader_over(alloc, delimiter_of(bytes), bytes)?;
+        let mut reader = reader_over(alloc, delimiter_of(key_bytes), key_bytes)?;
         let mut row = ByteRecord::new(alloc);
         for rows_before in 0..u64::MAX {
             if !next_row(&mut reader, &mut row)? {
@@ -304,25 +304,25 @@ impl Key {
         alloc: Global,
         numbers: &MemberNumbers,
         row: &ByteRecord,
-        place: u64,
+        row_number: u64,
     ) -> Result<(), WhyFault>
         requires { AreNumbers numbers.now }
         ensures row { OnOk result (both_of self.new
             ≡ added numbers.now.docket.now (both_of self.old) (fields_of row.now)) }
-        ensures faultless { OnOk result
-            (row_fault numbers.now.docket.now (both_of self.old) place (fields_of row.now) ≡ None) }
+        ensures faultless { OnOk result (row_fault
+            numbers.now.docket.now (both_of self.old) row_number (fields_of row.now) ≡ None) }
         ensures fault { IfErr result (IsFaultOrMemory
-            (row_fault numbers.now.docket.now (both_of self.old) place (fields_of row.now))) }
+            (row_fault numbers.now.docket.now (both_of self.old) row_number (fields_of row.now))) }
     {
         match side_of_row(row) {
             Some(Side::Programmes) => self
                 .programmes
-                .add(alloc, numbers, Side::Programmes, row, place),
+                .add(alloc, numbers, Side::Programmes, row, row_number),
             Some(Side::Residents) => self
                 .residents
-                .add(alloc, numbers, Side::Residents, row, place),
+                .add(alloc, numbers, Side::Residents, row, row_number),
             None if is_blank(row) => Ok(()),
-            None => Err(WhyFault::BadKey { place }),
+            None => Err(WhyFault::BadKey { row_number }),
         }
     }
 }

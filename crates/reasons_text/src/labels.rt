@@ -65,30 +65,30 @@ fn note_docket_name<'a>(
 }
 
 // The sign of a member, or an empty text if the key gives the member none.
-fn sign_of(key: &SideKey, place: usize) -> &str
-    ensures { result.now ≡ unwrap_or (text_at (side_of key.now).signs place) [] }
+fn sign_of(side_key: &SideKey, number: usize) -> &str
+    ensures { result.now ≡ unwrap_or (text_at (side_of side_key.now).signs number) [] }
 {
-    text_in(key.signs.as_slice(), place).unwrap_or("")
+    text_in(side_key.signs.as_slice(), number).unwrap_or("")
 }
 
 // Notes the name, the sign and the label that the key gives a member, if the key has a row of the
 // member.
 fn note_row<'a>(
     owners: &mut Owners<'a>,
-    key: &'a SideKey,
+    side_key: &'a SideKey,
     label: &'a str,
     number: usize,
 ) -> Result<(), AllocError>
-    requires { label.now ≡ spec.full_label (side_of key.now) number }
+    requires { label.now ≡ spec.full_label (side_of side_key.now) number }
     ensures { OnOk result (Notes owners.old owners.new
-        (is_by_key (text_at (side_of key.entry.now).names number)
-        (text_at (side_of key.entry.now).signs number)) number) }
+        (is_by_key (text_at (side_of side_key.entry.now).names number)
+        (text_at (side_of side_key.entry.now).signs number)) number) }
 {
-    let Some(name) = text_in(key.names.as_slice(), number) else {
+    let Some(name) = text_in(side_key.names.as_slice(), number) else {
         return Ok(());
     };
     note(owners, name, number)?;
-    note(owners, sign_of(key, number), number)?;
+    note(owners, sign_of(side_key, number), number)?;
     note(owners, label, number)
 }
 
@@ -97,16 +97,16 @@ fn note_member_texts<'a>(
     owners: &mut Owners<'a>,
     docket: &'a Docket,
     side: Side,
-    key: &'a SideKey,
+    side_key: &'a SideKey,
     label: &'a str,
     number: usize,
 ) -> Result<(), AllocError>
-    requires { label.now ≡ spec.full_label (side_of key.now) number }
+    requires { label.now ≡ spec.full_label (side_of side_key.now) number }
     ensures { OnOk result (Notes owners.old owners.new
-        (λ text. is_meant docket.entry.now side (side_of key.entry.now) text number) number) }
+        (λ text. is_meant docket.entry.now side (side_of side_key.entry.now) text number) number) }
 {
     note_docket_name(owners, docket, side, number)?;
-    note_row(owners, key, label, number)
+    note_row(owners, side_key, label, number)
 }
 
 // The number of members on a side that may have names: those of the docket, and those whom only the key has.
@@ -114,19 +114,19 @@ fn named_count(docket: &Docket, side: Side, names: &[String]) -> usize
     ensures members { members_of docket.now side ≤ result }
     ensures rows { length names.now ≤ result }
 {
-    let members = member_count(docket, side) as usize;
-    members.max(names.len())
+    let docket_member_count = member_count(docket, side) as usize;
+    docket_member_count.max(names.len())
 }
 
 // The label of a member, or an empty text if the key gives the member no name.
-fn full_label(alloc: Global, key: &SideKey, place: usize) -> Result<String, AllocError>
+fn full_label(alloc: Global, side_key: &SideKey, number: usize) -> Result<String, AllocError>
     ensures { IfOk result (λ label.
-        string_bytes label ≡ spec.full_label (side_of key.now) place) }
+        string_bytes label ≡ spec.full_label (side_of side_key.now) number) }
 {
-    let Some(name) = text_in(key.names.as_slice(), place) else {
+    let Some(name) = text_in(side_key.names.as_slice(), number) else {
         return Ok(String::new(alloc));
     };
-    label_text(alloc, name, sign_of(key, place))
+    label_text(alloc, name, sign_of(side_key, number))
 }
 
 // The labels of all who may have names.
@@ -134,14 +134,14 @@ fn full_labels(
     alloc: Global,
     docket: &Docket,
     side: Side,
-    key: &SideKey,
+    side_key: &SideKey,
 ) -> Result<Vec<String>, AllocError>
     ensures { IfOk result (λ labels.
-        AreFull docket.now side (side_of key.now) (map string_bytes labels.items)) }
+        AreFull docket.now side (side_of side_key.now) (map string_bytes labels.items)) }
 {
     let mut labels = Vec::new(alloc);
-    for number in 0..named_count(docket, side, key.names.as_slice()) {
-        let label = full_label(alloc, key, number)?;
+    for number in 0..named_count(docket, side, side_key.names.as_slice()) {
+        let label = full_label(alloc, side_key, number)?;
         labels.push(label)?;
     }
     Ok(labels)
@@ -153,11 +153,11 @@ fn owners<'a>(
     hash_keys: RandomState,
     docket: &'a Docket,
     side: Side,
-    key: &'a SideKey,
+    side_key: &'a SideKey,
     labels: &'a [String],
 ) -> Result<Owners<'a>, AllocError>
-    requires { AreFull docket.now side (side_of key.now) (map string_bytes labels.now) }
-    ensures { IfOk result (AreOwners docket.entry.now side (side_of key.entry.now)) }
+    requires { AreFull docket.now side (side_of side_key.now) (map string_bytes labels.now) }
+    ensures { IfOk result (AreOwners docket.entry.now side (side_of side_key.entry.now)) }
 {
     let mut owners = HashMap::with_hasher(alloc, hash_keys);
     for number in 0..labels.len() {
@@ -165,7 +165,7 @@ fn owners<'a>(
             &mut owners,
             docket,
             side,
-            key,
+            side_key,
             labels[number].as_str(),
             number,
         )?;
@@ -177,18 +177,18 @@ fn owners<'a>(
 fn label_if_shared(
     alloc: Global,
     owners: &Owners,
-    key: &SideKey,
+    side_key: &SideKey,
     number: u32,
 ) -> Result<String, AllocError>
     ensures { IfOk result (λ label.
-        string_bytes label ≡ spec.label_by owners.now (side_of key.now) number) }
+        string_bytes label ≡ spec.label_by owners.now (side_of side_key.now) number) }
 {
-    let place = number as usize;
-    let Some(name) = text_in(key.names.as_slice(), place) else {
+    let index = number as usize;
+    let Some(name) = text_in(side_key.names.as_slice(), index) else {
         return Ok(String::new(alloc));
     };
     match owner(owners, name) {
-        Meant::Several => full_label(alloc, key, place),
+        Meant::Several => full_label(alloc, side_key, index),
         Meant::One(_) | Meant::Nobody => Ok(String::new(alloc)),
     }
 }
@@ -199,23 +199,23 @@ pub(crate) fn labels(
     hash_keys: RandomState,
     docket: &Docket,
     side: Side,
-    key: &SideKey,
+    side_key: &SideKey,
 ) -> Result<Vec<String>, AllocError>
     ensures { IfOk result (λ labels.
-        AreLabels docket.now side (side_of key.now) (map string_bytes labels.items)) }
+        AreLabels docket.now side (side_of side_key.now) (map string_bytes labels.items)) }
 {
-    let possible_labels = full_labels(alloc, docket, side, key)?;
+    let possible_labels = full_labels(alloc, docket, side, side_key)?;
     let owners = owners(
         alloc,
         hash_keys,
         docket,
         side,
-        key,
+        side_key,
         possible_labels.as_slice(),
     )?;
     let mut labels = Vec::new(alloc);
     for number in 0..member_count(docket, side) {
-        let label = label_if_shared(alloc, &owners, key, number)?;
+        let label = label_if_shared(alloc, &owners, side_key, number)?;
         labels.push(label)?;
     }
     Ok(labels)

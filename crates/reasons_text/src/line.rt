@@ -137,8 +137,8 @@ fn matches_of<'a, S: AsStr>(
     words: &'a [S],
 ) -> Result<ArgMatches<'a>, clap::Error>
     requires { app_of command.old ≡ why_app }
-    ensures found { IfOk result (λ matches.
-        rows_of (found_of matches) ≡ rows_in why_app (map S.text words.entry.now)) }
+    ensures found { IfOk result (λ parsed_words.
+        rows_of (found_of parsed_words) ≡ rows_in why_app (map S.text words.entry.now)) }
     ensures refused { IfErr result (HasKind (fault_of why_app (map S.text words.entry.now))) }
 {
     command.try_get_matches_from_mut(words)
@@ -146,18 +146,20 @@ fn matches_of<'a, S: AsStr>(
 
 // Whom the command line's words ask about. None if they ask about nobody, or both about a resident and about
 // all.
-fn asked<'a>(matches: &ArgMatches<'a>) -> Option<Asked<'a>>
-    ensures all { IfSome result (λ asked. IsFlagged (codes "all") (rows_of (found_of matches.now))
-        → asked ≡ Asked.All) }
-    ensures one { IfSome result (λ asked. IsUnflagged (codes "all") (rows_of (found_of matches.now))
-        → IsAskedBy (first_of (codes "resident") (rows_of (found_of matches.now)))
-        (first_of (codes "programme") (rows_of (found_of matches.now))) asked) }
-    ensures none { result ≡ None → AsksNone (rows_of (found_of matches.now)) }
+fn asked<'a>(parsed_words: &ArgMatches<'a>) -> Option<Asked<'a>>
+    ensures all { IfSome result (λ asked.
+        IsFlagged (codes "all") (rows_of (found_of parsed_words.now))
+        → asked ≡ Asked.AllResidents) }
+    ensures one { IfSome result (λ asked.
+        IsUnflagged (codes "all") (rows_of (found_of parsed_words.now))
+        → IsAskedBy (first_of (codes "resident") (rows_of (found_of parsed_words.now)))
+        (first_of (codes "programme") (rows_of (found_of parsed_words.now))) asked) }
+    ensures none { result ≡ None → AsksNone (rows_of (found_of parsed_words.now)) }
 {
-    let is_about_all_residents = matches.get_flag("all");
-    let Some(resident) = matches.get_str("resident") else {
+    let is_about_all_residents = parsed_words.get_flag("all");
+    let Some(resident) = parsed_words.get_str("resident") else {
         return if is_about_all_residents {
-            Some(Asked::All)
+            Some(Asked::AllResidents)
         } else {
             None
         };
@@ -165,7 +167,7 @@ fn asked<'a>(matches: &ArgMatches<'a>) -> Option<Asked<'a>>
     if is_about_all_residents {
         return None;
     }
-    match matches.get_str("programme") {
+    match parsed_words.get_str("programme") {
         Some(programme) => Some(Asked::Pair(resident, programme)),
         None => Some(Asked::Resident(resident)),
     }
@@ -201,17 +203,17 @@ pub fn read_line<'a, S: AsStr>(alloc: Global, words: &'a [S]) -> Result<Question
     ensures refused { IfErr result (Refuses (map S.text words.entry.now)) }
 {
     let mut command = command(alloc)?;
-    let matches = match matches_of(&mut command, words) {
-        Ok(matches) => matches,
+    let parsed_words = match matches_of(&mut command, words) {
+        Ok(parsed_words) => parsed_words,
         Err(error) => return Err(line_fault(error)),
     };
-    let Some(asked) = asked(&matches) else {
-        return Err(nobody_asked(&mut command, matches.get_flag("all")));
+    let Some(asked) = asked(&parsed_words) else {
+        return Err(nobody_asked(&mut command, parsed_words.get_flag("all")));
     };
     Ok(Question {
         asked,
-        without_ranks: matches.get_flag("without-ranks"),
-        key: matches.get_str("key"),
-        sheet: matches.get_str("sheet"),
+        without_ranks: parsed_words.get_flag("without-ranks"),
+        key: parsed_words.get_str("key"),
+        sheet: parsed_words.get_str("sheet"),
     })
 }

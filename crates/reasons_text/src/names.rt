@@ -55,8 +55,8 @@ impl Names<'_> {
         ensures members { member_count_in self.now.docket.now side ≤ result }
         ensures rows { length (names_in (naming_of self.now) side).names ≤ result }
     {
-        let members = member_count(self.docket, side) as usize;
-        members.max(self.side_key(side).names.len())
+        let docket_member_count = member_count(self.docket, side) as usize;
+        docket_member_count.max(self.side_key(side).names.len())
     }
 
     /// The name that is shown for a member, or an empty name for a number without a member.
@@ -64,12 +64,12 @@ impl Names<'_> {
     pub(crate) fn shown_name(&self, side: Side, number: u32) -> &str
         ensures { result.now ≡ shown (naming_of self.now) side number }
     {
-        let key = self.side_key(side);
-        let place = number as usize;
-        if let Some(label) = text_in(key.labels.as_slice(), place) {
+        let side_key = self.side_key(side);
+        let index = number as usize;
+        if let Some(label) = text_in(side_key.labels.as_slice(), index) {
             return label;
         }
-        match text_in(key.names.as_slice(), place) {
+        match text_in(side_key.names.as_slice(), index) {
             Some(name) => name,
             None => docket_name(self.docket, side, number),
         }
@@ -113,14 +113,14 @@ impl Names<'_> {
         side: Side,
         number: usize,
     ) -> Result<String, AllocError> {
-        let key = self.side_key(side);
-        let Some(name) = text_in(key.names.as_slice(), number) else {
+        let side_key = self.side_key(side);
+        let Some(name) = text_in(side_key.names.as_slice(), number) else {
             return match u32::try_from(number) {
                 Ok(number) => String::from_str(alloc, docket_name(self.docket, side, number)),
                 Err(_) => Ok(String::new(alloc)),
             };
         };
-        let sign = text_in(key.signs.as_slice(), number).unwrap_or("");
+        let sign = text_in(side_key.signs.as_slice(), number).unwrap_or("");
         label_text(alloc, name, sign)
     }
 
@@ -133,17 +133,18 @@ impl Names<'_> {
         text: &str,
         number: usize,
     ) -> Result<bool, AllocError>
-        ensures { IfOk result (λ answer. answer ≡ means (naming_of self.now) side text.now number) }
+        ensures { IfOk result (λ is_meant.
+            is_meant ≡ means (naming_of self.now) side text.now number) }
     {
-        let members = member_count(self.docket, side) as usize;
-        if number < members && docket_name(self.docket, side, number as u32) == text {
+        let docket_member_count = member_count(self.docket, side) as usize;
+        if number < docket_member_count && docket_name(self.docket, side, number as u32) == text {
             return Ok(true);
         }
-        let key = self.side_key(side);
-        let Some(name) = text_in(key.names.as_slice(), number) else {
+        let side_key = self.side_key(side);
+        let Some(name) = text_in(side_key.names.as_slice(), number) else {
             return Ok(false);
         };
-        let sign = text_in(key.signs.as_slice(), number).unwrap_or("");
+        let sign = text_in(side_key.signs.as_slice(), number).unwrap_or("");
         if name == text || sign == text {
             return Ok(true);
         }

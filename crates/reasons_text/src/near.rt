@@ -27,7 +27,7 @@ fn most_edits(letter_count: usize) -> usize {
 }
 
 // How many edits separate a name from the name asked for, or none if the names are not similar.
-fn edits(alloc: Global, asked_name: &str, name: &str) -> Result<Option<usize>, AllocError> {
+fn edits_between(alloc: Global, asked_name: &str, name: &str) -> Result<Option<usize>, AllocError> {
     if asked_name.len() > LONGEST_ASKED_NAME {
         return Ok(None);
     }
@@ -36,9 +36,9 @@ fn edits(alloc: Global, asked_name: &str, name: &str) -> Result<Option<usize>, A
     if name.chars().count().abs_diff(letter_count) > most_edits {
         return Ok(None);
     }
-    let edits = levenshtein(alloc, asked_name, name)?;
-    Ok(if edits <= most_edits {
-        Some(edits)
+    let edit_count = levenshtein(alloc, asked_name, name)?;
+    Ok(if edit_count <= most_edits {
+        Some(edit_count)
     } else {
         None
     })
@@ -55,11 +55,11 @@ fn edits_of(
 ) -> Result<Option<usize>, AllocError> {
     let shown_name = names.shown_name(side, number);
     let real_name = names.real_name(side, number);
-    let shown_edits = edits(alloc, asked_name, shown_name)?;
+    let shown_edits = edits_between(alloc, asked_name, shown_name)?;
     if real_name == shown_name {
         return Ok(shown_edits);
     }
-    let real_edits = edits(alloc, asked_name, real_name)?;
+    let real_edits = edits_between(alloc, asked_name, real_name)?;
     Ok(match (shown_edits, real_edits) {
         (Some(shown_edits), Some(real_edits)) => Some(shown_edits.min(real_edits)),
         (shown_edits, None) => shown_edits,
@@ -68,28 +68,28 @@ fn edits_of(
 }
 
 // Adds a similar name to the question `did you mean ..?`.
-fn push_similar_name(text: &mut String, name: &str) -> Result<(), AllocError> {
-    if text.is_empty() {
-        text.push_str("; did you mean ")?;
+fn push_similar_name(question: &mut String, name: &str) -> Result<(), AllocError> {
+    if question.is_empty() {
+        question.push_str("; did you mean ")?;
     } else {
-        text.push_str(" or ")?;
+        question.push_str(" or ")?;
     }
-    text.push_str(name)
+    question.push_str(name)
 }
 
 // Ends the question `did you mean ..?`, if the text has begun it.
-fn end_similar_names(text: &mut String) -> Result<(), AllocError> {
-    if text.is_empty() {
+fn end_similar_names(question: &mut String) -> Result<(), AllocError> {
+    if question.is_empty() {
         return Ok(());
     }
-    text.push_str("?")
+    question.push_str("?")
 }
 
 // The name asked for, in the form in which it is shown.
 fn shown_text(alloc: Global, asked_name: &str) -> Result<String, AllocError> {
-    let mut text = String::new(alloc);
-    push_shown(&mut text, asked_name)?;
-    Ok(text)
+    let mut shown = String::new(alloc);
+    push_shown(&mut shown, asked_name)?;
+    Ok(shown)
 }
 
 // The question that lists similar names, or an empty text if no name is similar.
@@ -146,23 +146,23 @@ fn labels_of(
     side: Side,
     asked_name: &str,
 ) -> Result<String, AllocError> {
-    let mut text = String::new(alloc);
+    let mut labels = String::new(alloc);
     let mut meant_count = 0usize;
     for number in 0..names.named_count(side) {
         if !names.means(alloc, side, asked_name, number)? {
             continue;
         }
         if meant_count < MOST_MEMBERS_LISTED {
-            text.push_str(if meant_count == 0 { "" } else { ", " })?;
-            text.push_str(names.label(alloc, side, number)?.as_str())?;
+            labels.push_str(if meant_count == 0 { "" } else { ", " })?;
+            labels.push_str(names.label(alloc, side, number)?.as_str())?;
         }
         meant_count = meant_count.saturating_add(1);
     }
     if meant_count > MOST_MEMBERS_LISTED {
         let more_members = meant_count - MOST_MEMBERS_LISTED;
-        text.push_str(format!(in alloc; " and {more_members} more")?.as_str())?;
+        labels.push_str(format!(in alloc; " and {more_members} more")?.as_str())?;
     }
-    Ok(text)
+    Ok(labels)
 }
 
 /// The fault that more than one member of this side has this name, with the labels of up to ten of them.

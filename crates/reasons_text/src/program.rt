@@ -40,14 +40,14 @@ fn exit_code_of<T: Eprint>(
     console: &T,
     limits: Limits,
     question: &Question,
-    answer: &Result<(), WhyFault>,
+    question_result: &Result<(), WhyFault>,
 ) -> ExitCode
-    ensures { exit_status_in result ≡ exit_status_of answer.now }
+    ensures { exit_status_in result ≡ exit_status_of question_result.now }
 {
-    if let Err(fault) = answer {
+    if let Err(fault) = question_result {
         print_fault(console, limits, question, fault);
     }
-    ExitCode::from(exit_status(answer))
+    ExitCode::from(exit_status(question_result))
 }
 
 // Answers a question over a docket from the reader and a sheet from its own file, within these limits.
@@ -56,8 +56,8 @@ fn serve_with_sheet_file<R, W, T, H>(
     alloc: Global,
     limits: Limits,
     question: &Question,
-    path: &str,
-    key: Option<&[u8]>,
+    sheet_path: &str,
+    key_bytes: Option<&[u8]>,
     reader: R,
     writer: &mut W,
     console: &T,
@@ -68,30 +68,30 @@ where
     T: Eprint,
     H: RandomSource + Files + AllocGlobal,
     ensures { EndsServed (AnswersBeside limits question.now (R.remaining reader)
-        (option_copied key.entry) (W.contents writer.old) (W.contents writer.new)) exit_status_of
-        (W.contents writer.old) (W.contents writer.new) (exit_status_in result) }
+        (option_copied key_bytes.entry) (W.contents writer.old) (W.contents writer.new))
+        exit_status_of (W.contents writer.old) (W.contents writer.new) (exit_status_in result) }
 {
-    let sheet = match load_path(rt, path) {
-        Ok(sheet) => sheet,
-        Err(unread) => return refuse_unread(console, &unread),
+    let sheet_bytes = match load_path(rt, sheet_path) {
+        Ok(sheet_bytes) => sheet_bytes,
+        Err(unread_file) => return refuse_unread(console, &unread_file),
     };
     let mut reader = reader;
-    let docket = match load_input(alloc, "standard input", &mut reader) {
-        Ok(docket) => docket,
-        Err(unread) => return refuse_unread(console, &unread),
+    let docket_bytes = match load_input(alloc, "standard input", &mut reader) {
+        Ok(docket_bytes) => docket_bytes,
+        Err(unread_file) => return refuse_unread(console, &unread_file),
     };
-    let answer = serve_why_files_within(
+    let question_result = serve_why_files_within(
         rt,
         alloc,
         limits,
-        docket.as_slice(),
-        sheet.as_slice(),
+        docket_bytes.as_slice(),
+        sheet_bytes.as_slice(),
         writer,
         question.asked,
         question.without_ranks,
-        key,
+        key_bytes,
     );
-    exit_code_of(console, limits, question, &answer)
+    exit_code_of(console, limits, question, &question_result)
 }
 
 // Reads the files that the question names, and answers the question within these limits.
@@ -114,18 +114,18 @@ where
 {
     let loaded_key = match load_path_if(rt, question.key) {
         Ok(loaded_key) => loaded_key,
-        Err(unread) => return refuse_unread(console, &unread),
+        Err(unread_file) => return refuse_unread(console, &unread_file),
     };
-    let key = lent(&loaded_key);
+    let key_bytes = lent(&loaded_key);
     match question.sheet {
-        Some(path) => {
+        Some(sheet_path) => {
             serve_with_sheet_file(
-                rt, alloc, limits, question, path, key, reader, writer, console,
+                rt, alloc, limits, question, sheet_path, key_bytes, reader, writer, console,
             )
         }
         None => {
             let (asked, without_ranks) = (question.asked, question.without_ranks);
-            let answer = serve_why_within(
+            let question_result = serve_why_within(
                 rt,
                 alloc,
                 limits,
@@ -133,9 +133,9 @@ where
                 writer,
                 asked,
                 without_ranks,
-                key,
+                key_bytes,
             );
-            exit_code_of(console, limits, question, &answer)
+            exit_code_of(console, limits, question, &question_result)
         }
     }
 }
@@ -183,11 +183,11 @@ where
     ensures { EndsWithin limits words (R.remaining reader)
         (W.contents writer.old) (W.contents writer.new) (exit_status_in result) }
 {
-    let texts = match texts_of(words) {
-        Ok(texts) => texts,
+    let word_texts = match texts_of(words) {
+        Ok(word_texts) => word_texts,
         Err(fault) => return refuse(console, &fault),
     };
-    match read_line(alloc, texts.as_slice()) {
+    match read_line(alloc, word_texts.as_slice()) {
         Ok(question) => serve(rt, alloc, limits, &question, reader, writer, console),
         Err(fault) => refuse(console, &UsageFault::Line(fault)),
     }

@@ -4,7 +4,7 @@
 #[derive(Clone, Copy, Debug, PartialEq, Eq)]
 pub enum Asked<'a> {
     /// Every resident, each with the programmes on the resident's R record.
-    All,
+    AllResidents,
     /// The resident with this name, and each programme on the resident's R record.
     Resident(&'a str),
     /// The resident with the first name, and the programme with the second name.

@@ -31,16 +31,16 @@ pub enum NamesFault {
     Key(WhyFault),
     /// A name or an ID is no text, or has a character that is invisible or changes the direction of
     /// text.
-    #[error("record {place} of the key: its name or ID has a hidden character")]
+    #[error("record {row_number} of the key: its name or ID has a hidden character")]
     Hidden {
-        /// The number of the record, from 1.
-        place: u64,
+        /// The number of the row, from 1.
+        row_number: u64,
     },
     /// A name or an ID is longer than [`LONGEST_NAME`].
-    #[error("record {place} of the key: its name or ID is longer than 10000 bytes")]
+    #[error("record {row_number} of the key: its name or ID is longer than 10000 bytes")]
     Long {
-        /// The number of the record, from 1.
-        place: u64,
+        /// The number of the row, from 1.
+        row_number: u64,
     },
 }
 
@@ -109,10 +109,10 @@ fn is_long(text: &[u8]) -> bool
 }
 
 // The records of a key.
-fn key_rows(alloc: Global, bytes: &[u8]) -> Result<Vec<ByteRecord>, AllocError>
-    ensures { IfOk result (λ rows. AreKeyRows bytes.now (map fields_of rows.items)) }
+fn key_rows(alloc: Global, key_bytes: &[u8]) -> Result<Vec<ByteRecord>, AllocError>
+    ensures { IfOk result (λ rows. AreKeyRows key_bytes.now (map fields_of rows.items)) }
 {
-    let mut reader = reader_over(alloc, delimiter_of(bytes), bytes)?;
+    let mut reader = reader_over(alloc, delimiter_of(key_bytes), key_bytes)?;
     let mut rows = Vec::new(alloc);
     for _n in 0..u64::MAX {
         let mut row = ByteRecord::new(alloc);
@@ -161,12 +161,12 @@ fn name_at(names: &[Option<ByteRecord>], member: usize) -> Option<&ByteRecord>
     }
 }
 
-// Puts a real name at index `place`, if there is such an index.
-fn put(names: &mut Vec<Option<ByteRecord>>, place: usize, real_name: ByteRecord)
+// Puts a real name at index `member`, if there is such an index.
+fn put(names: &mut Vec<Option<ByteRecord>>, member: usize, real_name: ByteRecord)
     ensures { map real_in names.new.items
-        ≡ slice_set (map real_in names.old.items) place (Some (fields_of real_name)) }
+        ≡ slice_set (map real_in names.old.items) member (Some (fields_of real_name)) }
 {
-    if let Some(slot) = names.get_mut(place) {
+    if let Some(slot) = names.get_mut(member) {
         *slot = Some(real_name);
     }
 }
@@ -188,9 +188,9 @@ impl Model for RealNames {
 
     ghost Value = { Real };
 
-    ghost view = { λ a. record {
-      programmes = map real_in a.programmes.items;
-      residents = map real_in a.residents.items;
+    ghost view = { λ real_names. record {
+      programmes = map real_in real_names.programmes.items;
+      residents = map real_in real_names.residents.items;
     } };
 }
 
@@ -222,15 +222,15 @@ impl RealNames {
         rt: &H,
         alloc: Global,
         docket: &Docket,
-        bytes: &[u8],
+        key_bytes: &[u8],
     ) -> Result<RealNames, NamesFault>
-        ensures names { IfOk result (IsRealOf docket.now bytes.now) }
-        ensures fault { IfErr result (IsNamesFault docket.now bytes.now) }
+        ensures names { IfOk result (IsRealOf docket.now key_bytes.now) }
+        ensures fault { IfErr result (IsNamesFault docket.now key_bytes.now) }
     {
         let Ok(hash_keys) = RandomState::new(rt) else {
             return Err(NamesFault::Key(WhyFault::Docket(DocketFault::Read { place: 1 })));
         };
-        let rows = key_rows(alloc, bytes)?;
+        let rows = key_rows(alloc, key_bytes)?;
         let numbers = MemberNumbers::of(alloc, hash_keys, docket)?;
         names_in_rows(alloc, &numbers, docket, rows.as_slice())
     }
@@ -283,24 +283,24 @@ fn test_row(
     numbers: &MemberNumbers,
     key: &mut Key,
     row: &ByteRecord,
-    place: u64,
+    row_number: u64,
 ) -> Result<(), NamesFault>
     requires { AreNumbers numbers.now }
     ensures row { OnOk result (both_of key.new
         ≡ added numbers.now.docket.now (both_of key.old) (fields_of row.now)) }
-    ensures faultless { OnOk result
-        (real_fault numbers.now.docket.now (both_of key.old) place (fields_of row.now) ≡ None) }
+    ensures faultless { OnOk result (real_fault
+        numbers.now.docket.now (both_of key.old) row_number (fields_of row.now) ≡ None) }
     ensures fault { IfErr result (λ fault. IsOutOfMemory fault ⊎ (real_fault
-        numbers.now.docket.now (both_of key.old) place (fields_of row.now) ≡ Some fault)) }
+        numbers.now.docket.now (both_of key.old) row_number (fields_of row.now) ≡ Some fault)) }
 {
-    if let Err(fault) = key.add(alloc, numbers, row, place) {
+    if let Err(fault) = key.add(alloc, numbers, row, row_number) {
         return Err(NamesFault::Key(fault));
     }
     if is_unclear(field(row, 2)) || is_unclear(field(row, 3)) {
-        return Err(NamesFault::Hidden { place });
+        return Err(NamesFault::Hidden { row_number });
     }
     if is_long(field(row, 2)) || is_long(field(row, 3)) {
-        return Err(NamesFault::Long { place });
+        return Err(NamesFault::Long { row_number });
     }
     Ok(())
 }

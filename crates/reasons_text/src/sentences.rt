@@ -130,11 +130,11 @@ fn sentence(
         Why::NotRanked => format!(in alloc; "it did not rank you."),
         Why::Matched => format!(in alloc; "you are matched here."),
         Why::PrefersOwn {
-            own,
+            own: own_programme,
             own_rank,
             rank,
         } => {
-            let own_name = names.programme(own);
+            let own_name = names.programme(own_programme);
             let own_ordinal = Ordinal(own_rank);
             let ordinal = Ordinal(rank);
             format!(in alloc;
@@ -156,28 +156,30 @@ fn sentence(
 #[tactic(auto, unfolding(crate::specs::Lines::line))]
 pub(crate) fn push_line(
     alloc: Global,
-    text: &mut String,
+    answer_lines: &mut String,
     names: &Names,
     resident: ResidentNo,
     programme: ProgrammeNo,
     reason: Why,
     without_ranks: bool,
 ) -> Result<(), AllocError>
-    ensures { OnOk result (string_bytes text.new ≡ string_bytes text.old
+    ensures { OnOk result (string_bytes answer_lines.new ≡ string_bytes answer_lines.old
         ++ line (naming_of names.now) without_ranks resident programme reason) }
 {
     let sentence_text = sentence(alloc, names, resident, reason, without_ranks)?;
-    text.push_str(names.programme(programme))?;
-    text.push_str(": ")?;
-    text.push_str(sentence_text.as_str())?;
-    text.push_str("\n")
+    answer_lines.push_str(names.programme(programme))?;
+    answer_lines.push_str(": ")?;
+    answer_lines.push_str(sentence_text.as_str())?;
+    answer_lines.push_str("\n")
 }
 
 // At which index of the list a programme stands, counted from 0.
-fn choice_of(list: &[ProgrammeNo], programme: ProgrammeNo) -> Option<usize>
-    ensures { result ≡ position_from (λ p. p == programme) 0 list.now }
+fn choice_of(choices: &[ProgrammeNo], programme: ProgrammeNo) -> Option<usize>
+    ensures { result ≡ position_from (λ p. p == programme) 0 choices.now }
 {
-    list.iter().position(|listed| *listed == programme)
+    choices
+        .iter()
+        .position(|listed_programme| *listed_programme == programme)
 }
 
 // How the match ended for a resident who is matched with this programme. `choice` is the programme's index on the
@@ -220,17 +222,17 @@ fn outcome_sentence(
     alloc: Global,
     names: &Names,
     own_programme: Option<ProgrammeNo>,
-    list: &[ProgrammeNo],
+    choices: &[ProgrammeNo],
     reasons: &[Why],
 ) -> Result<String, AllocError>
-    ensures { IfOk result (λ text.
-        string_bytes text ≡ spec.outcome (naming_of names.now) own_programme list.now reasons.now) }
+    ensures { IfOk result (λ text. string_bytes text
+        ≡ spec.outcome (naming_of names.now) own_programme choices.now reasons.now) }
 {
     match own_programme {
         Some(own_programme) => matched_sentence(
             alloc,
             names.programme(own_programme),
-            choice_of(list, own_programme),
+            choice_of(choices, own_programme),
             reasons,
         ),
         None => format!(in alloc; "You are not matched."),
@@ -244,16 +246,16 @@ fn ended_sentence(
     names: &Names,
     resident: ResidentNo,
     own_programme: Option<ProgrammeNo>,
-    list: &[ProgrammeNo],
+    choices: &[ProgrammeNo],
     reasons: &[Why],
 ) -> Result<String, AllocError>
     ensures { IfOk result (λ text. string_bytes text
-        ≡ spec.ended (naming_of names.now) resident own_programme list.now reasons.now) }
+        ≡ spec.ended (naming_of names.now) resident own_programme choices.now reasons.now) }
 {
     if names.resident_withdrew(resident) {
         format!(in alloc; "You withdrew from the match.")
     } else {
-        outcome_sentence(alloc, names, own_programme, list, reasons)
+        outcome_sentence(alloc, names, own_programme, choices, reasons)
     }
 }
 
@@ -287,10 +289,10 @@ fn ranked_sentence(
     if has_withdrawn {
         return format!(in alloc; " You had ranked {programme_count} {programme_word}.\n");
     }
-    let ranked_back = Count(tally.ranked_back_count);
-    let withdrew = Count(tally.withdrawal_count);
+    let ranked_back_count = Count(tally.ranked_back_count);
+    let withdrawal_count = Count(tally.withdrawal_count);
     format!(in alloc;
-        " You ranked {programme_count} {programme_word}: {ranked_back} ranked you too, {withdrew} withdrew.\n"
+        " You ranked {programme_count} {programme_word}: {ranked_back_count} ranked you too, {withdrawal_count} withdrew.\n"
     )
 }
 
@@ -298,19 +300,19 @@ fn ranked_sentence(
 /// how many of these ranked the resident, and how many withdrew.
 pub(crate) fn push_first_line(
     alloc: Global,
-    text: &mut String,
+    answer_lines: &mut String,
     names: &Names,
     resident: ResidentNo,
     own_programme: Option<ProgrammeNo>,
-    list: &[ProgrammeNo],
+    choices: &[ProgrammeNo],
     reasons: &[Why],
 ) -> Result<(), AllocError>
-    ensures { OnOk result (string_bytes text.new ≡ string_bytes text.old
-        ++ first_line (naming_of names.now) resident own_programme list.now reasons.now) }
+    ensures { OnOk result (string_bytes answer_lines.new ≡ string_bytes answer_lines.old
+        ++ first_line (naming_of names.now) resident own_programme choices.now reasons.now) }
 {
     let tally = count_answers(reasons);
-    let ended_text = ended_sentence(alloc, names, resident, own_programme, list, reasons)?;
+    let ended_text = ended_sentence(alloc, names, resident, own_programme, choices, reasons)?;
     let ranked_text = ranked_sentence(alloc, names.resident_withdrew(resident), tally)?;
-    text.push_str(ended_text.as_str())?;
-    text.push_str(ranked_text.as_str())
+    answer_lines.push_str(ended_text.as_str())?;
+    answer_lines.push_str(ranked_text.as_str())
 }

@@ -12,12 +12,12 @@ fn shown_letter(c: char) -> char
 }
 
 /// Adds a text, with a question mark for each control character.
-pub(crate) fn push_shown(text: &mut String, added_text: &str) -> Result<(), AllocError>
-    ensures { OnOk result
-        (string_bytes text.new ≡ string_bytes text.old ++ shown_text added_text.now) }
+pub(crate) fn push_shown(terminal_text: &mut String, added_text: &str) -> Result<(), AllocError>
+    ensures { OnOk result (string_bytes terminal_text.new
+        ≡ string_bytes terminal_text.old ++ shown_text added_text.now) }
 {
     for c in added_text.chars() {
-        text.push(shown_letter(c))?;
+        terminal_text.push(shown_letter(c))?;
     }
     Ok(())
 }

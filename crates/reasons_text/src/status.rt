@@ -9,10 +9,10 @@ use program_shell::{docket_status, records_status};
 /// The exit status of the program after a question. The status is 0 for an answer, and 1 if memory, reading or writing
 /// failed. The status is 3 for a docket at fault, a missing sheet, an unknown name, and a name that means several
 /// members.
-pub fn exit_status(answer: &Result<(), WhyFault>) -> u8
-    ensures { result ≡ exit_status_of answer.now }
+pub fn exit_status(question_result: &Result<(), WhyFault>) -> u8
+    ensures { result ≡ exit_status_of question_result.now }
 {
-    match answer {
+    match question_result {
         Ok(()) => 0,
         Err(fault) => fault_status(fault),
     }

@@ -45,11 +45,11 @@ where
     ensures { EndsServingWithin limits order.now (R.remaining reader)
         (W.contents writer.old) (W.contents writer.new) (exit_status_in result) }
 {
-    let answer = serve_within(rt, alloc, limits, order, reader, writer, &OpenGate);
-    if let Err(fault) = &answer {
+    let call_result = serve_within(rt, alloc, limits, order, reader, writer, &OpenGate);
+    if let Err(fault) = &call_result {
         tell(console, limits, fault);
     }
-    ExitCode::from(exit_status_within(&answer))
+    ExitCode::from(exit_status_within(&call_result))
 }
 
 /// Does what the words ask within the standard limits, over a reader and a writer, and returns the exit status.
@@ -94,11 +94,11 @@ where
     ensures { EndsWithin limits words (R.remaining reader)
         (W.contents writer.old) (W.contents writer.new) (exit_status_in result) }
 {
-    let texts = match texts_of(words) {
-        Ok(texts) => texts,
+    let word_texts = match texts_of(words) {
+        Ok(word_texts) => word_texts,
         Err(fault) => return refuse(console, &fault),
     };
-    match read_line(alloc, texts.as_slice()) {
+    match read_line(alloc, word_texts.as_slice()) {
         Ok(order) => serve_and_tell(rt, alloc, limits, &order, console, reader, writer),
         Err(fault) => refuse(console, &UsageFault::Line(fault)),
     }

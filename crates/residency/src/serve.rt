@@ -146,7 +146,7 @@ fn write_audit<W: Write>(
 
 // Writes whether a docket's journal is a good exchange. If there is a sheet, the answer also says whether the journal
 // leads to this sheet.
-fn write_answer<W: Write>(
+fn write_replay_result<W: Write>(
     alloc: Global,
     docket: &Docket,
     writer: &mut W,
@@ -182,8 +182,9 @@ where
     H: Threads + Wait + RandomSource + Sync + Send + Copy,
     requires { G.MAY_STOP ≡ false }
     ensures status { IfOk result (λ status. status ≡ Status.Closed) }
-    ensures text { OnOk result ((bytes : List ℕ) → R.remaining reader ≡ Some bytes → AreDocket (λ d.
-        WritesMatch d options.now (W.contents writer.old) (W.contents writer.new)) bytes) }
+    ensures text { OnOk result ((bytes : List ℕ)
+        → R.remaining reader ≡ Some bytes → AreDocket (λ docket.
+        WritesMatch docket options.now (W.contents writer.old) (W.contents writer.new)) bytes) }
     ensures fault { IfErr result (λ fault. (bytes : List ℕ)
         → R.remaining reader ≡ Some bytes → IsFaultOf (IsMatchFault options.now) bytes fault) }
     ensures before { IfErr result (λ fault. IsBeforeWriting fault → writer.new ≡ writer.old) }
@@ -212,8 +213,8 @@ pub fn serve_audit<R: Read + Drop, W: Write, H: RandomSource>(
     writer: &mut W,
 ) -> Result<Status, ServeFault>
     ensures report { IfOk result (λ status. (bytes : List ℕ)
-        → R.remaining reader ≡ Some bytes → AreDocket (λ d.
-        WritesReport d status (W.contents writer.old) (W.contents writer.new)) bytes) }
+        → R.remaining reader ≡ Some bytes → AreDocket (λ docket.
+        WritesReport docket status (W.contents writer.old) (W.contents writer.new)) bytes) }
     ensures fault { IfErr result (λ fault. (bytes : List ℕ)
         → R.remaining reader ≡ Some bytes → IsFaultOf IsAuditFault bytes fault) }
     ensures before { IfErr result (λ fault. IsBeforeWriting fault → writer.new ≡ writer.old) }
@@ -233,14 +234,14 @@ pub fn serve_replay<R: Read + Drop, W: Write, H: RandomSource>(
     writer: &mut W,
 ) -> Result<Status, ServeFault>
     ensures answer { IfOk result (λ status. (bytes : List ℕ)
-        → R.remaining reader ≡ Some bytes → AreDocket (λ d.
-        WritesReplay d status (W.contents writer.old) (W.contents writer.new)) bytes) }
+        → R.remaining reader ≡ Some bytes → AreDocket (λ docket.
+        WritesReplay docket status (W.contents writer.old) (W.contents writer.new)) bytes) }
     ensures fault { IfErr result (λ fault. (bytes : List ℕ)
         → R.remaining reader ≡ Some bytes → IsFaultOf IsReplayFault bytes fault) }
     ensures before { IfErr result (λ fault. IsBeforeWriting fault → writer.new ≡ writer.old) }
 {
     match read_docket(rt, alloc, reader) {
-        Ok(docket) => write_answer(alloc, &docket, writer),
+        Ok(docket) => write_replay_result(alloc, &docket, writer),
         Err(fault) => Err(ServeFault::Docket(fault)),
     }
 }
@@ -271,7 +272,7 @@ where
             match_docket(rt, alloc, docket, writer, options, gate, spent_memory)
         }
         Order::Audit => write_audit(alloc, docket, writer),
-        Order::Replay => write_answer(alloc, docket, writer),
+        Order::Replay => write_replay_result(alloc, docket, writer),
     }
 }
 
@@ -310,9 +311,9 @@ where
         Ok(docket) => docket,
         Err(fault) => return Err(LimitsFault::Reading(fault)),
     };
-    let answer = serve_docket(rt, alloc, order, &docket, writer, gate);
+    let call_result = serve_docket(rt, alloc, order, &docket, writer, gate);
     memory_spent_by(order).let_go(docket);
-    match answer {
+    match call_result {
         Ok(status) => Ok(status),
         Err(fault) => Err(LimitsFault::Serving(fault)),
     }

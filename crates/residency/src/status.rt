@@ -57,20 +57,20 @@ fn fault_status(fault: &ServeFault) -> u8
 }
 
 /// The exit status of the program after a call.
-pub fn exit_status(answer: &Result<Status, ServeFault>) -> u8
-    ensures { result ≡ exit_status_of answer.now }
+pub fn exit_status(call_result: &Result<Status, ServeFault>) -> u8
+    ensures { result ≡ exit_status_of call_result.now }
 {
-    match answer {
+    match call_result {
         Ok(status) => status_code(*status),
         Err(fault) => fault_status(fault),
     }
 }
 
 /// The exit status of the program after a call within limits.
-pub(crate) fn exit_status_within(answer: &Result<Status, LimitsFault>) -> u8
-    ensures { result ≡ exit_status_within_of answer.now }
+pub(crate) fn exit_status_within(call_result: &Result<Status, LimitsFault>) -> u8
+    ensures { result ≡ exit_status_within_of call_result.now }
 {
-    match answer {
+    match call_result {
         Ok(status) => status_code(*status),
         Err(LimitsFault::Reading(fault)) => records_status(fault),
         Err(LimitsFault::Serving(fault)) => fault_status(fault),

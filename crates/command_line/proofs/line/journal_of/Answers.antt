@@ -9,8 +9,8 @@ no_both one other = search rules
 
 pub returns-then-get_flag : goal.returns-then-get_flag
 returns-then-get_flag c =
-    let no : IsUnflagged (codes "journal-by-worker") (rows_of (found_of c.args.matches.now)) → ⊥ =
-    λ without. no_both c.if-get_flag.true (c.get_flag.ensures.other (one_text-rows (found_of c.args.matches.now) (codes "journal-by-worker") ∙ without)) in
+    let no : IsUnflagged (codes "journal-by-worker") (rows_of (found_of c.args.parsed_words.now)) → ⊥ =
+    λ without. no_both c.if-get_flag.true (c.get_flag.ensures.other (one_text-rows (found_of c.args.parsed_words.now) (codes "journal-by-worker") ∙ without)) in
     record {
       by_worker = λ with. refl;
       plain = λ without with. absurd (no without);
@@ -19,7 +19,7 @@ returns-then-get_flag c =
 
 pub returns-then-get_flag-2 : goal.returns-then-get_flag-2
 returns-then-get_flag-2 c =
-    let read = one_text-rows (found_of c.args.matches.now) in
+    let read = one_text-rows (found_of c.args.parsed_words.now) in
     record {
       by_worker = λ with. absurd (no_both (c.get_flag.ensures.value (read (codes "journal-by-worker") ∙ with)) c.if-get_flag.false);
       plain = λ without with. refl;
@@ -28,7 +28,7 @@ returns-then-get_flag-2 c =
 
 pub returns-else-get_flag-2 : goal.returns-else-get_flag-2
 returns-else-get_flag-2 c =
-    let read = one_text-rows (found_of c.args.matches.now) in
+    let read = one_text-rows (found_of c.args.parsed_words.now) in
     record {
       by_worker = λ with. absurd (no_both (c.get_flag.ensures.value (read (codes "journal-by-worker") ∙ with)) c.if-get_flag.false);
       plain = λ without with. absurd (no_both (c.get_flag-else-get_flag.ensures.value (read (codes "journal") ∙ with)) c.if-get_flag-2.false);

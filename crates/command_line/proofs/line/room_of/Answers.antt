@@ -28,7 +28,7 @@ not_none is = search rules
 
 pub returns-in-Some-clause-given : goal.returns-in-Some-clause-given
 returns-in-Some-clause-given c =
-    let read = first_value-rows (found_of c.args.matches.now) (codes "capacity") in
+    let read = first_value-rows (found_of c.args.parsed_words.now) (codes "capacity") in
     IfOk-weaker c.ok_or.result _ _ (λ room is text given.
     ap capacity_of (sym (same (c.in-Some.ensures ∙ (read ∙ given))) ∙ sym c.as_bytes.ensures.value) ∙ (sym c.capacity_of.ensures.written ∙ is))
     (gives c.capacity_of.result _ c.ok_or.result c.ok_or.ensures.value)
@@ -36,13 +36,13 @@ returns-in-Some-clause-given c =
 pub returns-in-Some-clause-bad : goal.returns-in-Some-clause-bad
 returns-in-Some-clause-bad c =
     IfErr-weaker c.ok_or.result _ _ (λ fault is. record {
-      rows = rows_of (found_of c.args.matches.now);
+      rows = rows_of (found_of c.args.parsed_words.now);
       command = refl;
-      text = c.in-Some.text.now;
-      room = sym (c.in-Some.ensures ∙ first_value-rows (found_of c.args.matches.now) (codes "capacity"));
+      text = c.in-Some.capacity_text.now;
+      room = sym (c.in-Some.ensures ∙ first_value-rows (found_of c.args.parsed_words.now) (codes "capacity"));
       bad = ap capacity_of (sym c.as_bytes.ensures.value) ∙ (sym c.capacity_of.ensures.written ∙ is);
     }) (gives_none c.capacity_of.result _ c.ok_or.result c.ok_or.ensures.value)
 
 pub returns-in-None-clause-given : goal.returns-in-None-clause-given
 returns-in-None-clause-given c text given =
-    absurd (not_none (c.in-None.ensures ∙ (first_value-rows (found_of c.args.matches.now) (codes "capacity") ∙ given)))
+    absurd (not_none (c.in-None.ensures ∙ (first_value-rows (found_of c.args.parsed_words.now) (codes "capacity") ∙ given)))

@@ -16,12 +16,12 @@ reads r n most read = ap value_of (parse-decimal 64 n (decimal n) r (omega arith
 
 pub returns-in-Some-clause-given : goal.returns-in-Some-clause-given
 returns-in-Some-clause-given c n least most given =
-    let read = c.in-Some.ensures.value (decimal n) (one_text-rows (found_of c.args.matches.now) (codes "workers") ∙ given) in
+    let read = c.in-Some.ensures.value (decimal n) (one_text-rows (found_of c.args.parsed_words.now) (codes "workers") ∙ given) in
     let is : c.in-Some.workers ≡ n = reads (Ok c.in-Some.workers) n most read.0 in
     omega arith
 
 pub returns-in-None-clause-given : goal.returns-in-None-clause-given
 returns-in-None-clause-given c n least most given =
-    let read = c.in-None.ensures.value (decimal n) (one_text-rows (found_of c.args.matches.now) (codes "workers") ∙ given) in
+    let read = c.in-None.ensures.value (decimal n) (one_text-rows (found_of c.args.parsed_words.now) (codes "workers") ∙ given) in
     let is : 0 ≡ n = reads (Err tt) n most read.1.0 in
     omega arith

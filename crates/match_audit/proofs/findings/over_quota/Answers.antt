@@ -11,9 +11,9 @@ use Rattle.match_audit.proofs.findings.over_quota.Goals as goal
 pub loop-p-preserved : goal.loop-p-preserved
 loop-p-preserved c = λ m h.
     let p : ℕ = c.loop-p.p in
-    let load : Load = get_or c.args.loads.now p (record { members = 0; worst = 0 }) in
+    let load : Load = get_or c.args.loads.now p (record { members = 0; worst_rank = 0 }) in
     let member : p < length c.args.inst.now.quotas = (let e = c.programmes-p-end.ensures.count in let l = c.loop-p-test.true in omega arith) in
-    let at : slice_get c.args.loads.now p ≡ Some load = slice_get-get_or c.args.loads.now p (record { members = 0; worst = 0 }) (let e = h.one_each in omega arith) in
+    let at : slice_get c.args.loads.now p ≡ Some load = slice_get-get_or c.args.loads.now p (record { members = 0; worst_rank = 0 }) (let e = h.one_each in omega arith) in
     let count : load.members ≡ member_count m p = (h.each p load at).members in
     elim c.if-members-quota.branch [
       | then-members-quota+in_ok-push w ↦

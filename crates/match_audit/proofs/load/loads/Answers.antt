@@ -48,7 +48,7 @@ loop-r-preserved c =
           let more = AreLoads-more c.args.inst.now (take r m) p old w.index_mut.result.now c.loop-r.invariant.loads at in
           let item : loaded w.index_mut.result.now (place (list_of_programme c.args.inst.now p) (length (take r m))) ≡ w.add.new.self =
           ap (λ z. loaded w.index_mut.result.now (place (list_of_programme c.args.inst.now p) z)) long
-          ∙ ap (loaded w.index_mut.result.now) (ap (λ z. place (list_of_programme c.args.inst.now z) r) c.programme.view_is ∙ sym w.place_at.ensures) ∙ sym w.add.ensures in
+          ∙ ap (loaded w.index_mut.result.now) (ap (λ z. place (list_of_programme c.args.inst.now z) r) c.programme.view_is ∙ sym w.rank_or_length.ensures) ∙ sym w.add.ensures in
           let is : set old p (loaded w.index_mut.result.now (place (list_of_programme c.args.inst.now p) (length (take r m)))) ≡ c.if-programme-programmes.loads.items =
           ap (set old p) item ∙ sym (ap (λ (v : Vec Load). v.items) w.loads-is) in
           record {

@@ -1,7 +1,7 @@
 use Rattle.reasons_text.proofs.answering.answer_text.Goals as goal
 
-pub returns-in-All : goal.returns-in-All
-returns-in-All c = rw c.in-All.is c.table_of.ensures
+pub returns-in-AllResidents : goal.returns-in-AllResidents
+returns-in-AllResidents c = rw c.in-AllResidents.is c.table_of.ensures
 
 pub returns-in-Resident : goal.returns-in-Resident
 returns-in-Resident c = rw c.in-Resident.is c.lines_of.ensures

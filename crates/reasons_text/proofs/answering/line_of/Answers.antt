@@ -9,5 +9,5 @@ returns c =
     record {
       reason = c.reason-reason.result;
       first = c.reason-reason.ensures;
-      text_is = ap (λ v. v.items) c.into_bytes.ensures.value ∙ c.in_ok-push_line.ensures ∙ ap (λ (t : List ℕ). t ++ said) c.new-text.ensures.bytes;
+      text_is = ap (λ v. v.items) c.into_bytes.ensures.value ∙ c.in_ok-push_line.ensures ∙ ap (λ (t : List ℕ). t ++ said) c.new-answer_line.ensures.bytes;
     }

@@ -7,7 +7,7 @@ use Rattle.reasons_text.proofs.LineFacts.{text_made}
 use Rattle.reasons_text.proofs.answering.push_lines.Goals as goal
 
 pub push_each-requires : goal.push_each-requires
-push_each-requires c = rw (c.as_slice-list.ensures.value, c.as_slice-reasons.ensures.value) c.in_ok-answers.ensures.first.each
+push_each-requires c = rw (c.as_slice-programmes.ensures.value, c.as_slice-reasons.ensures.value) c.in_ok-answers.ensures.first.each
 
 pub returns : goal.returns
 returns c =
@@ -15,13 +15,13 @@ returns c =
     let own = programme_of c.args.case.now.sheet c.args.resident in
     on_ok_weaker c.push_each.result
     (λ h. record {
-      text = text_on names c.args.manner.now.without_ranks c.args.resident own c.as_slice-list.result.now c.as_slice-reasons.result.now;
+      text = text_on names c.args.manner.now.without_ranks c.args.resident own c.as_slice-programmes.result.now c.as_slice-reasons.result.now;
       wanted = record {
         told = record {
-          programmes = c.as_slice-list.result.now;
+          programmes = c.as_slice-programmes.result.now;
           reasons = c.as_slice-reasons.result.now;
-          first = rw (c.as_slice-list.ensures.value, c.as_slice-reasons.ensures.value) c.in_ok-answers.ensures.first;
-          record_is = rw c.as_slice-list.ensures.value c.in_ok-answers.ensures.record;
+          first = rw (c.as_slice-programmes.ensures.value, c.as_slice-reasons.ensures.value) c.in_ok-answers.ensures.first;
+          record_is = rw c.as_slice-programmes.ensures.value c.in_ok-answers.ensures.record;
         };
         text_is = refl;
       };

@@ -5,16 +5,16 @@ use Rattle.match_reasons.specs.Reason.{IsFirst}
 use Rattle.reasons_text.proofs.AnswerFacts.{made_of_lists}
 use Rattle.reasons_text.proofs.case.reason_from.Goals as goal
 
-pub new-listed-requires : goal.new-listed-requires
-new-listed-requires c =
-    subst (λ (i : Instance). AreWritten i c.args.lists.now) (sym c.instance.ensures.instance)
-    (made_of_lists c.requires.case.limits None c.args.docket.now c.args.lists.now c.requires.case.read)
+pub new-listed_instance-requires : goal.new-listed_instance-requires
+new-listed_instance-requires c =
+    subst (λ (i : Instance). AreWritten i c.args.written_lists.now) (sym c.instance.ensures.instance)
+    (made_of_lists c.requires.case.limits None c.args.docket.now c.args.written_lists.now c.requires.case.read)
 
 pub returns : goal.returns
 returns c =
     let r : ℕ = c.args.resident in
     let p : ℕ = c.args.programme in
-    let inst = c.new-listed.ensures.instance ∙ c.instance.ensures.instance in
-    subst (λ (i : Instance). IsFirst i (list_at c.args.lists.now.resident_lists r) (list_at c.args.lists.now.programme_lists p) c.args.sheet.now r p c.why.result) inst
-    (subst (λ (w : Written). IsFirst c.new-listed.result.instance (list_at w.resident_lists r) (list_at w.programme_lists p) c.args.sheet.now r p c.why.result)
-    c.new-listed.ensures.written c.why.ensures.first)
+    let inst = c.new-listed_instance.ensures.instance ∙ c.instance.ensures.instance in
+    subst (λ (i : Instance). IsFirst i (list_at c.args.written_lists.now.resident_lists r) (list_at c.args.written_lists.now.programme_lists p) c.args.sheet.now r p c.why.result) inst
+    (subst (λ (w : Written). IsFirst c.new-listed_instance.result.instance (list_at w.resident_lists r) (list_at w.programme_lists p) c.args.sheet.now r p c.why.result)
+    c.new-listed_instance.ensures.written c.why.ensures.first)

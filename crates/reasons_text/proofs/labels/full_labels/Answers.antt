@@ -14,13 +14,13 @@ pub loop-number-preserved : goal.loop-number-preserved
 loop-number-preserved c =
     let zero : 0 + c.loop-number.number ≡ c.loop-number.number = omega arith in
     rw (c.in_ok-push.ensures.items, map-append string_bytes c.loop-number.labels.items (c.in_ok-label.label ∷ []), c.loop-number.invariant, c.in_ok-label.ensures)
-    (sym (map-range_with_len_more (full_label (side_of c.args.key.now)) 0 c.loop-number.number c.loop-number.number zero))
+    (sym (map-range_with_len_more (full_label (side_of c.args.side_key.now)) 0 c.loop-number.number c.loop-number.number zero))
 
 pub returns : goal.returns
 returns c =
     let past = c.loop-number-test.false in
     let members = c.named_count-number-end.ensures.members in
     let rows = c.named_count-number-end.ensures.rows in
-    let names = length-map c.args.key.now.names.items string_bytes in
+    let names = length-map c.args.side_key.now.names.items string_bytes in
     let slice = ap length c.as_slice.ensures.value in
-    all_full c.args.docket.now c.args.side (side_of c.args.key.now) (map string_bytes c.loop-number.labels.items) c.loop-number.number (omega (arith, past, members)) (omega (arith, past, rows, names, slice)) c.loop-number.invariant
+    all_full c.args.docket.now c.args.side (side_of c.args.side_key.now) (map string_bytes c.loop-number.labels.items) c.loop-number.number (omega (arith, past, members)) (omega (arith, past, rows, names, slice)) c.loop-number.invariant

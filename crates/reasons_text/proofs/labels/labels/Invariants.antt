@@ -5,4 +5,4 @@ use Rattle.reasons_text.specs.Naming.{side_of}
 use Rattle.reasons_text.proofs.labels.labels.Given as goal
 
 abbrev pub invariant-loop-number : goal.invariant-loop-number
-invariant-loop-number l = AreLabelsBelow l.docket l.fn.side (side_of l.key) l.number (map string_bytes l.labels.items)
+invariant-loop-number l = AreLabelsBelow l.docket l.fn.side (side_of l.side_key) l.number (map string_bytes l.labels.items)

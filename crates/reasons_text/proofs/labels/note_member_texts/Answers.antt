@@ -7,4 +7,4 @@ pub returns : goal.returns
 unfolding is_meant
 returns c =
     on_ok_weaker c.note_row.result (λ h. both_noted c.args.owners.now c.note_docket_name.new.owners c.note_row.new.owners (is_own c.args.docket.now c.args.side c.args.number)
-    (is_by_key (text_at (side_of c.args.key.now).names c.args.number) (text_at (side_of c.args.key.now).signs c.args.number)) c.args.number c.in_ok-note_docket_name.ensures h) c.note_row.ensures
+    (is_by_key (text_at (side_of c.args.side_key.now).names c.args.number) (text_at (side_of c.args.side_key.now).signs c.args.number)) c.args.number c.in_ok-note_docket_name.ensures h) c.note_row.ensures

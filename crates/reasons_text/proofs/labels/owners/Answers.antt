@@ -8,12 +8,12 @@ use Rattle.reasons_text.proofs.MeantFacts.{meant_none, meant_within}
 use Rattle.reasons_text.proofs.labels.owners.Goals as goal
 
 pub loop-number-init : goal.loop-number-init
-loop-number-init c text = rw c.with_hasher-owners.ensures.empty (meant_none (is_meant c.args.docket.now c.args.side (side_of c.args.key.now) text))
+loop-number-init c text = rw c.with_hasher-owners.ensures.empty (meant_none (is_meant c.args.docket.now c.args.side (side_of c.args.side_key.now) text))
 
 pub loop-number-preserved : goal.loop-number-preserved
 loop-number-preserved c text =
     rw (c.in_ok-note_member_texts.ensures text)
-    (owner_more (is_meant c.args.docket.now c.args.side (side_of c.args.key.now) text) c.loop-number.number (owner_in c.loop-number.owners text) (c.loop-number.invariant text))
+    (owner_more (is_meant c.args.docket.now c.args.side (side_of c.args.side_key.now) text) c.loop-number.number (owner_in c.loop-number.owners text) (c.loop-number.invariant text))
 
 pub returns : goal.returns
 returns c text =
@@ -23,6 +23,6 @@ returns c text =
     let rows = c.requires.rows in
     record {
       named = c.loop-number.number;
-      all = λ k met. meant_within c.args.docket.now c.args.side (side_of c.args.key.now) text c.loop-number.number k (omega (arith, past, size, members)) (omega (arith, past, size, rows)) met;
+      all = λ k met. meant_within c.args.docket.now c.args.side (side_of c.args.side_key.now) text c.loop-number.number k (omega (arith, past, size, members)) (omega (arith, past, size, rows)) met;
       is = c.loop-number.invariant text;
     }

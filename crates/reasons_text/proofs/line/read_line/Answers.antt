@@ -7,7 +7,7 @@ use Rattle.reasons_text.proofs.line.read_line.Goals as goal
 
 pub returns-clause-question : goal.returns-clause-question
 returns-clause-question g c =
-    let matches = found_of c.in-Ok.matches in
+    let matches = found_of c.in-Ok.parsed_words in
     let question : Question = record { asked = c.in-Some.asked; without_ranks = c.get_flag-2.result; key = c.get_str.result; sheet = c.get_str-2.result } in
     subst (λ (rows : List Row). GivesQuestion rows question) c.in-Ok.ensures.found (record {
       all = c.in-Some.ensures.all;

@@ -6,9 +6,9 @@ use Rattle.match_reasons.specs.Reason.{AreTaken}
 use Rattle.reasons_text.proofs.AnswerFacts.{made_of_lists}
 use Rattle.reasons_text.proofs.case.Case.of_docket.Goals as goal
 
-pub new-listed-requires : goal.new-listed-requires
-new-listed-requires c =
-    subst (λ (i : Instance). AreWritten i c.args.lists) (sym c.instance-2.ensures.instance) (made_of_lists _ _ _ _ c.requires.read)
+pub new-listed_instance-requires : goal.new-listed_instance-requires
+new-listed_instance-requires c =
+    subst (λ (i : Instance). AreWritten i c.args.written_lists) (sym c.instance-2.ensures.instance) (made_of_lists _ _ _ _ c.requires.read)
 
 pub invariant_of-result : goal.invariant_of-result
 invariant_of-result c =
@@ -18,6 +18,6 @@ invariant_of-result c =
       has_sheet = sym has ∙ ap Some (sym sheet);
       limits = c.requires.limits;
       read = c.requires.read;
-      taken = subst (λ (m : List (Option ℕ)). AreTaken c.args.lists m c.in_ok-taken_places.taken_places.items) (sym sheet)
-          (subst (λ (w : Written). AreTaken w c.in-Some.sheet.now c.in_ok-taken_places.taken_places.items) c.new-listed.ensures.written c.in_ok-taken_places.ensures.taken);
+      taken = subst (λ (m : List (Option ℕ)). AreTaken c.args.written_lists m c.in_ok-taken_places.taken_places.items) (sym sheet)
+          (subst (λ (w : Written). AreTaken w c.in-Some.sheet.now c.in_ok-taken_places.taken_places.items) c.new-listed_instance.ensures.written c.in_ok-taken_places.ensures.taken);
     }

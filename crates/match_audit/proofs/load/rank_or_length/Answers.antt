@@ -1,6 +1,6 @@
 use Rattle.std.proofs.Common.{ap, ◌∙◌, sym, length, List, ℕ}
 use Rattle.match_audit.proofs.Ranks.{place_unranked}
-use Rattle.match_audit.proofs.load.place_at.Goals as goal
+use Rattle.match_audit.proofs.load.rank_or_length.Goals as goal
 
 pub returns-in-None : goal.returns-in-None
 returns-in-None c =
