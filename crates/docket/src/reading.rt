@@ -17,7 +17,7 @@ use std::hash::RandomState;
 #[derive(Drop)]
 pub(crate) struct Reading {
     pub(crate) records: u32,
-    pub(crate) texts: Texts,
+    pub(crate) name_texts: Texts,
     pub(crate) declared: Declarations,
     pub(crate) lists: Lists,
     pub(crate) sheet: SheetRows,
@@ -34,7 +34,7 @@ impl Reading {
     {
         Reading {
             records: 0,
-            texts: Texts::new(alloc, keys),
+            name_texts: Texts::new(alloc, keys),
             declared: Declarations::new(alloc, limits),
             lists: Lists::new(alloc),
             sheet: SheetRows::new(alloc),
@@ -44,7 +44,7 @@ impl Reading {
 
     /// The number of the next record, from 1.
     #[inline(always)]
-    pub(crate) fn place(&self) -> u32
+    pub(crate) fn next_record_no(&self) -> u32
         requires { self.now.records < most_records_in self.now.declared.builder.limits }
         ensures { result ≡ self.now.records + 1 }
     {

@@ -29,19 +29,19 @@ use std::alloc::{AllocError, Global};
 
 // Fills `listed` with the residents whose names have these numbers.
 fn listed_residents(
-    place: u32,
+    record_no: u32,
     names: &[u32],
     residents: &Members,
     listed: &mut Vec<ResidentNo>,
 ) -> Result<(), DocketFault>
     ensures listed { OnOk result (listed.new.items ≡ map (member_at residents.now) names.now) }
     ensures fault { Answers
-        (unless (list_all (is_member residents.now) names.now) (UnknownName place)) result }
+        (unless (list_all (is_member residents.now) names.now) (UnknownName record_no)) result }
 {
     listed.clear();
     for name in names {
         let Some(resident) = residents.member(*name as usize) else {
-            return Err(DocketFault::UnknownName { place });
+            return Err(DocketFault::UnknownName { place: record_no });
         };
         listed.push(ResidentNo(resident))?;
     }
@@ -50,19 +50,19 @@ fn listed_residents(
 
 // Fills `listed` with the programmes whose names have these numbers.
 fn listed_programmes(
-    place: u32,
+    record_no: u32,
     names: &[u32],
     programmes: &Members,
     listed: &mut Vec<ProgrammeNo>,
 ) -> Result<(), DocketFault>
     ensures listed { OnOk result (listed.new.items ≡ map (member_at programmes.now) names.now) }
     ensures fault { Answers
-        (unless (list_all (is_member programmes.now) names.now) (UnknownName place)) result }
+        (unless (list_all (is_member programmes.now) names.now) (UnknownName record_no)) result }
 {
     listed.clear();
     for name in names {
         let Some(programme) = programmes.member(*name as usize) else {
-            return Err(DocketFault::UnknownName { place });
+            return Err(DocketFault::UnknownName { place: record_no });
         };
         listed.push(ProgrammeNo(programme))?;
     }
@@ -79,18 +79,18 @@ fn rank_residents(
     programme_lists: &mut ProgrammeLists,
     listed: &mut Vec<ResidentNo>,
 ) -> Result<(), DocketFault>
-    ensures ranked { OnOk result ((texts : Fields) (rows : List Fields) (k : ℕ)
-        → IsNext texts programmes.now residents.now builder.old rows k
+    ensures ranked { OnOk result ((name_texts : Fields) (rows : List Fields) (k : ℕ)
+        → IsNext name_texts programmes.now residents.now builder.old rows k
         (record {
-          place = row.now.place;
+          record_no = row.now.record_no;
           kind = Ranking Programmes;
           owner = row.now.owner;
           listed = row.now.listed.now;
         }) → IsRanked builder.new rows (take (k + 1) rows)) }
-    ensures fault { (texts : Fields) (rows : List Fields) (k : ℕ)
-        → IsNext texts programmes.now residents.now builder.old rows k
+    ensures fault { (name_texts : Fields) (rows : List Fields) (k : ℕ)
+        → IsNext name_texts programmes.now residents.now builder.old rows k
         (record {
-          place = row.now.place;
+          record_no = row.now.record_no;
           kind = Ranking Programmes;
           owner = row.now.owner;
           listed = row.now.listed.now;
@@ -101,14 +101,16 @@ fn rank_residents(
         → programme_lists.new ≡ builder.new.programme_lists) }
 {
     let Some(owner) = programmes.member(row.owner as usize) else {
-        return Err(DocketFault::UnknownName { place: row.place });
+        return Err(DocketFault::UnknownName {
+            place: row.record_no,
+        });
     };
-    listed_residents(row.place, row.listed, residents, listed)?;
+    listed_residents(row.record_no, row.listed, residents, listed)?;
     let (owner, list) = (ProgrammeNo(owner), listed.as_slice());
     programme_lists.give(alloc, owner, list)?;
     match builder.programme_list(owner, list) {
         Ok(()) => Ok(()),
-        Err(fault) => Err(model_fault(row.place, fault)),
+        Err(fault) => Err(model_fault(row.record_no, fault)),
     }
 }
 
@@ -120,18 +122,18 @@ fn rank_programmes(
     builder: &mut InstanceBuilder,
     listed: &mut Vec<ProgrammeNo>,
 ) -> Result<(), DocketFault>
-    ensures ranked { OnOk result ((texts : Fields) (rows : List Fields) (k : ℕ)
-        → IsNext texts programmes.now residents.now builder.old rows k
+    ensures ranked { OnOk result ((name_texts : Fields) (rows : List Fields) (k : ℕ)
+        → IsNext name_texts programmes.now residents.now builder.old rows k
         (record {
-          place = row.now.place;
+          record_no = row.now.record_no;
           kind = Ranking Residents;
           owner = row.now.owner;
           listed = row.now.listed.now;
         }) → IsRanked builder.new rows (take (k + 1) rows)) }
-    ensures fault { (texts : Fields) (rows : List Fields) (k : ℕ)
-        → IsNext texts programmes.now residents.now builder.old rows k
+    ensures fault { (name_texts : Fields) (rows : List Fields) (k : ℕ)
+        → IsNext name_texts programmes.now residents.now builder.old rows k
         (record {
-          place = row.now.place;
+          record_no = row.now.record_no;
           kind = Ranking Residents;
           owner = row.now.owner;
           listed = row.now.listed.now;
@@ -141,12 +143,14 @@ fn rank_programmes(
     ensures same { OnOk result (builder.new.programme_lists ≡ builder.old.programme_lists) }
 {
     let Some(owner) = residents.member(row.owner as usize) else {
-        return Err(DocketFault::UnknownName { place: row.place });
+        return Err(DocketFault::UnknownName {
+            place: row.record_no,
+        });
     };
-    listed_programmes(row.place, row.listed, programmes, listed)?;
+    listed_programmes(row.record_no, row.listed, programmes, listed)?;
     match builder.resident_list(ResidentNo(owner), listed.as_slice()) {
         Ok(()) => Ok(()),
-        Err(fault) => Err(model_fault(row.place, fault)),
+        Err(fault) => Err(model_fault(row.record_no, fault)),
     }
 }
 
@@ -156,17 +160,19 @@ fn withdraw_programme(
     programmes: &Members,
     builder: &mut InstanceBuilder,
 ) -> Result<(), DocketFault>
-    ensures ranked { OnOk result ((texts : Fields) (rows : List Fields) (residents : List ℕ) (k : ℕ)
-        → IsNext texts programmes.now residents builder.old rows k (record {
-          place = row.now.place;
+    ensures ranked { OnOk result ((name_texts : Fields) (rows : List Fields)
+        (residents : List ℕ) (k : ℕ)
+        → IsNext name_texts programmes.now residents builder.old rows k (record {
+          record_no = row.now.record_no;
           kind = Withdrawal Programmes;
           owner = row.now.owner;
           listed = [];
         })
         → IsRanked builder.new rows (take (k + 1) rows)) }
-    ensures fault { (texts : Fields) (rows : List Fields) (residents : List ℕ) (k : ℕ)
-        → IsNext texts programmes.now residents builder.old rows k (record {
-          place = row.now.place;
+    ensures fault { (name_texts : Fields) (rows : List Fields)
+        (residents : List ℕ) (k : ℕ)
+        → IsNext name_texts programmes.now residents builder.old rows k (record {
+          record_no = row.now.record_no;
           kind = Withdrawal Programmes;
           owner = row.now.owner;
           listed = [];
@@ -176,11 +182,13 @@ fn withdraw_programme(
     ensures same { OnOk result (builder.new.programme_lists ≡ builder.old.programme_lists) }
 {
     let Some(programme) = programmes.member(row.owner as usize) else {
-        return Err(DocketFault::UnknownName { place: row.place });
+        return Err(DocketFault::UnknownName {
+            place: row.record_no,
+        });
     };
     match builder.withdraw_programme(ProgrammeNo(programme)) {
         Ok(()) => Ok(()),
-        Err(fault) => Err(model_fault(row.place, fault)),
+        Err(fault) => Err(model_fault(row.record_no, fault)),
     }
 }
 
@@ -190,17 +198,18 @@ fn withdraw_resident(
     residents: &Members,
     builder: &mut InstanceBuilder,
 ) -> Result<(), DocketFault>
-    ensures ranked { OnOk result ((texts : Fields) (rows : List Fields)
-        (programmes : List ℕ) (k : ℕ) → IsNext texts programmes residents.now builder.old rows k
+    ensures ranked { OnOk result ((name_texts : Fields) (rows : List Fields)
+        (programmes : List ℕ) (k : ℕ)
+        → IsNext name_texts programmes residents.now builder.old rows k
         (record {
-          place = row.now.place;
+          record_no = row.now.record_no;
           kind = Withdrawal Residents;
           owner = row.now.owner;
           listed = [];
         }) → IsRanked builder.new rows (take (k + 1) rows)) }
-    ensures fault { (texts : Fields) (rows : List Fields) (programmes : List ℕ) (k : ℕ)
-        → IsNext texts programmes residents.now builder.old rows k (record {
-          place = row.now.place;
+    ensures fault { (name_texts : Fields) (rows : List Fields) (programmes : List ℕ) (k : ℕ)
+        → IsNext name_texts programmes residents.now builder.old rows k (record {
+          record_no = row.now.record_no;
           kind = Withdrawal Residents;
           owner = row.now.owner;
           listed = [];
@@ -210,11 +219,13 @@ fn withdraw_resident(
     ensures same { OnOk result (builder.new.programme_lists ≡ builder.old.programme_lists) }
 {
     let Some(resident) = residents.member(row.owner as usize) else {
-        return Err(DocketFault::UnknownName { place: row.place });
+        return Err(DocketFault::UnknownName {
+            place: row.record_no,
+        });
     };
     match builder.withdraw_resident(ResidentNo(resident)) {
         Ok(()) => Ok(()),
-        Err(fault) => Err(model_fault(row.place, fault)),
+        Err(fault) => Err(model_fault(row.record_no, fault)),
     }
 }
 
@@ -231,13 +242,14 @@ fn rank_row(
     listed_by_resident: &mut Vec<ProgrammeNo>,
 ) -> Result<(), DocketFault>
     requires { row_index < length lists.now.entries }
-    ensures ranked { OnOk result ((texts : Fields) (rows : List Fields) (k : ℕ) (entry : KeptEntry)
+    ensures ranked { OnOk result ((name_texts : Fields) (rows : List Fields)
+        (k : ℕ) (entry : KeptEntry)
         → slice_get lists.now.entries row_index ≡ Some entry
-        → IsNext texts programmes.now residents.now builder.old rows k entry
+        → IsNext name_texts programmes.now residents.now builder.old rows k entry
         → IsRanked builder.new rows (take (k + 1) rows)) }
-    ensures fault { (texts : Fields) (rows : List Fields) (k : ℕ) (entry : KeptEntry)
+    ensures fault { (name_texts : Fields) (rows : List Fields) (k : ℕ) (entry : KeptEntry)
         → slice_get lists.now.entries row_index ≡ Some entry
-        → IsNext texts programmes.now residents.now builder.old rows k entry
+        → IsNext name_texts programmes.now residents.now builder.old rows k entry
         → Answers (ranking_fault rows (take k rows) (row_at rows k)) result }
     ensures limits { OnOk result (builder.new.limits ≡ builder.old.limits) }
     ensures given { OnOk result (programme_lists.old ≡ builder.old.programme_lists
@@ -271,11 +283,11 @@ fn rank(
     builder: &mut InstanceBuilder,
     programme_lists: &mut ProgrammeLists,
 ) -> Result<(), DocketFault>
-    ensures ranked { OnOk result ((texts : Fields) (rows : List Fields)
-        → AreLists texts lists.now rows → AreKnown texts programmes.now residents.now rows
+    ensures ranked { OnOk result ((name_texts : Fields) (rows : List Fields)
+        → AreLists name_texts lists.now rows → AreKnown name_texts programmes.now residents.now rows
         → IsRanked builder.old rows [] → IsRanked builder.new rows rows) }
-    ensures fault { (texts : Fields) (rows : List Fields)
-        → AreLists texts lists.now rows → AreKnown texts programmes.now residents.now rows
+    ensures fault { (name_texts : Fields) (rows : List Fields)
+        → AreLists name_texts lists.now rows → AreKnown name_texts programmes.now residents.now rows
         → IsRanked builder.old rows [] → Answers (first_from (ranking_fault rows) [] rows) result }
     ensures limits { OnOk result (builder.new.limits ≡ builder.old.limits) }
     ensures given { OnOk result (programme_lists.old ≡ builder.old.programme_lists
@@ -345,16 +357,16 @@ pub(crate) fn instance_of(
     mut builder: InstanceBuilder,
     keeps_lists: bool,
 ) -> Result<(Instance, Option<(WrittenLists, ProgrammeLists)>), DocketFault>
-    ensures instance { IfOk result (λ instance_and_lists. (texts : Fields) (rows : List Fields)
-        → AreLists texts lists.now rows → AreKnown texts programmes.now residents.now rows
+    ensures instance { IfOk result (λ instance_and_lists. (name_texts : Fields) (rows : List Fields)
+        → AreLists name_texts lists.now rows → AreKnown name_texts programmes.now residents.now rows
         → IsRanked builder rows [] → records ≡ length rows
         → instance_and_lists.0 ≡ instance_from (draft_of rows)) }
-    ensures lists { IfOk result (λ instance_and_lists. (texts : Fields) (rows : List Fields)
-        → AreLists texts lists.now rows → AreKnown texts programmes.now residents.now rows
+    ensures lists { IfOk result (λ instance_and_lists. (name_texts : Fields) (rows : List Fields)
+        → AreLists name_texts lists.now rows → AreKnown name_texts programmes.now residents.now rows
         → IsRanked builder rows [] → records ≡ length rows
         → instance_and_lists.1 ≡ lists_if keeps_lists rows) }
-    ensures fault { (texts : Fields) (rows : List Fields)
-        → AreLists texts lists.now rows → AreKnown texts programmes.now residents.now rows
+    ensures fault { (name_texts : Fields) (rows : List Fields)
+        → AreLists name_texts lists.now rows → AreKnown name_texts programmes.now residents.now rows
         → IsRanked builder rows [] → records ≡ length rows → Answers (option_or
         (first_from (ranking_fault rows) [] rows) (pairs_fault builder.limits rows)) result }
 {

@@ -37,15 +37,15 @@ fn all_set(flags: &[bool]) -> bool
 }
 
 // The member whose name is the text with this number.
-fn known_member(members: &Members, text: u32, place: u32) -> Result<u32, DocketFault>
+fn known_member(members: &Members, text: u32, record_no: u32) -> Result<u32, DocketFault>
     ensures member { IfOk result (λ member. position (nat_eq text) members.now ≡ Some member) }
     ensures below { IfOk result (λ member. member < length members.now) }
     ensures fault { Answers (unless
-        (is_some (position (nat_eq text) members.now)) (DocketFault.UnknownName place)) result }
+        (is_some (position (nat_eq text) members.now)) (DocketFault.UnknownName record_no)) result }
 {
     match members.member(text as usize) {
         Some(member) => Ok(member),
-        None => Err(DocketFault::UnknownName { place }),
+        None => Err(DocketFault::UnknownName { place: record_no }),
     }
 }
 
@@ -91,29 +91,29 @@ impl Marks {
         &mut self,
         programmes: &Members,
         residents: &Members,
-        place: u32,
+        record_no: u32,
         resident: u32,
         programme: u32,
     ) -> Result<(), DocketFault>
         requires sizes { IsSized self.old (length programmes.now) (length residents.now) }
         ensures sizes { OnOk result
             (IsSized self.new (length programmes.now) (length residents.now)) }
-        ensures marked { OnOk result ((texts : Fields) (all_rows rows_before : List Fields)
+        ensures marked { OnOk result ((name_texts : Fields) (all_rows rows_before : List Fields)
             (row : Fields)
-            → StandsAfter texts programmes.now residents.now all_rows rows_before place
+            → StandsAfter name_texts programmes.now residents.now all_rows rows_before record_no
             (Mark.Matched resident programme) row
             → IsMarked self.old all_rows rows_before
             → IsMarked self.new all_rows (rows_before ++ row ∷ [])) }
-        ensures fault { (texts : Fields) (all_rows rows_before : List Fields) (row : Fields)
-            → StandsAfter texts programmes.now residents.now all_rows rows_before place
+        ensures fault { (name_texts : Fields) (all_rows rows_before : List Fields) (row : Fields)
+            → StandsAfter name_texts programmes.now residents.now all_rows rows_before record_no
             (Mark.Matched resident programme) row
             → IsMarked self.old all_rows rows_before
             → Answers (mark_fault all_rows rows_before row) result }
     {
-        let resident = known_member(residents, resident, place)?;
-        let programme = known_member(programmes, programme, place)?;
+        let resident = known_member(residents, resident, record_no)?;
+        let programme = known_member(programmes, programme, record_no)?;
         if self.marked[resident as usize] {
-            return Err(DocketFault::BadSheet { place });
+            return Err(DocketFault::BadSheet { place: record_no });
         }
         self.marked[resident as usize] = true;
         self.matched_counts[programme as usize] =
@@ -127,27 +127,28 @@ impl Marks {
     fn add_unmatched(
         &mut self,
         residents: &Members,
-        place: u32,
+        record_no: u32,
         resident: u32,
     ) -> Result<(), DocketFault>
         requires sizes { length self.old.marked.items ≡ length residents.now }
         ensures sizes { (programmes : ℕ) → IsSized self.old programmes (length residents.now)
             → OnOk result (IsSized self.new programmes (length residents.now)) }
         ensures marked { (programmes : List ℕ)
-            → OnOk result ((texts : Fields) (all_rows rows_before : List Fields) (row : Fields)
-            → StandsAfter texts programmes residents.now all_rows rows_before place
+            → OnOk result ((name_texts : Fields) (all_rows rows_before : List Fields) (row : Fields)
+            → StandsAfter name_texts programmes residents.now all_rows rows_before record_no
             (Mark.Unmatched resident) row
             → IsMarked self.old all_rows rows_before
             → IsMarked self.new all_rows (rows_before ++ row ∷ [])) }
-        ensures fault { (programmes : List ℕ) (texts : Fields) (all_rows rows_before : List Fields)
-            (row : Fields) → StandsAfter texts programmes residents.now all_rows rows_before place
+        ensures fault { (programmes : List ℕ) (name_texts : Fields)
+            (all_rows rows_before : List Fields) (row : Fields)
+            → StandsAfter name_texts programmes residents.now all_rows rows_before record_no
             (Mark.Unmatched resident) row
             → IsMarked self.old all_rows rows_before
             → Answers (mark_fault all_rows rows_before row) result }
     {
-        let resident = known_member(residents, resident, place)?;
+        let resident = known_member(residents, resident, record_no)?;
         if self.marked[resident as usize] {
-            return Err(DocketFault::BadSheet { place });
+            return Err(DocketFault::BadSheet { place: record_no });
         }
         self.marked[resident as usize] = true;
         Ok(())
@@ -158,29 +159,29 @@ impl Marks {
     fn add_filled(
         &mut self,
         programmes: &Members,
-        place: u32,
+        record_no: u32,
         programme: u32,
     ) -> Result<(), DocketFault>
         requires sizes { length self.old.filled.items ≡ length programmes.now }
         ensures sizes { (residents : ℕ) → IsSized self.old (length programmes.now) residents
             → OnOk result (IsSized self.new (length programmes.now) residents) }
         ensures marked { (filled quota : ℕ) (residents : List ℕ)
-            → OnOk result ((texts : Fields) (all_rows rows_before : List Fields) (row : Fields)
-            → StandsAfter texts programmes.now residents all_rows rows_before place
+            → OnOk result ((name_texts : Fields) (all_rows rows_before : List Fields) (row : Fields)
+            → StandsAfter name_texts programmes.now residents all_rows rows_before record_no
             (Mark.Filled programme filled quota) row
             → IsMarked self.old all_rows rows_before
             → IsMarked self.new all_rows (rows_before ++ row ∷ [])) }
         ensures fault { (filled quota : ℕ)
-            (residents : List ℕ) (texts : Fields) (all_rows rows_before : List Fields)
+            (residents : List ℕ) (name_texts : Fields) (all_rows rows_before : List Fields)
             (row : Fields)
-            → StandsAfter texts programmes.now residents all_rows rows_before place
+            → StandsAfter name_texts programmes.now residents all_rows rows_before record_no
             (Mark.Filled programme filled quota) row
             → IsMarked self.old all_rows rows_before
             → Answers (mark_fault all_rows rows_before row) result }
     {
-        let programme = known_member(programmes, programme, place)?;
+        let programme = known_member(programmes, programme, record_no)?;
         if self.filled[programme as usize] {
-            return Err(DocketFault::BadSheet { place });
+            return Err(DocketFault::BadSheet { place: record_no });
         }
         self.filled[programme as usize] = true;
         Ok(())
@@ -196,26 +197,26 @@ impl Marks {
         requires sizes { IsSized self.old (length programmes.now) (length residents.now) }
         ensures sizes { OnOk result
             (IsSized self.new (length programmes.now) (length residents.now)) }
-        ensures marked { OnOk result ((texts : Fields) (all_rows rows_before : List Fields)
+        ensures marked { OnOk result ((name_texts : Fields) (all_rows rows_before : List Fields)
             (row : Fields)
-            → StandsAfter texts programmes.now residents.now all_rows rows_before
-            kept.place kept.mark row
+            → StandsAfter name_texts programmes.now residents.now all_rows rows_before
+            kept.record_no kept.mark row
             → IsMarked self.old all_rows rows_before
             → IsMarked self.new all_rows (rows_before ++ row ∷ [])) }
-        ensures fault { (texts : Fields) (all_rows rows_before : List Fields) (row : Fields)
-            → StandsAfter texts programmes.now residents.now all_rows rows_before
-            kept.place kept.mark row
+        ensures fault { (name_texts : Fields) (all_rows rows_before : List Fields) (row : Fields)
+            → StandsAfter name_texts programmes.now residents.now all_rows rows_before
+            kept.record_no kept.mark row
             → IsMarked self.old all_rows rows_before
             → Answers (mark_fault all_rows rows_before row) result }
     {
-        let place = kept.place;
+        let record_no = kept.record_no;
         match kept.mark {
             Mark::Matched {
                 resident,
                 programme,
-            } => self.add_matched(programmes, residents, place, resident, programme),
-            Mark::Unmatched { resident } => self.add_unmatched(residents, place, resident),
-            Mark::Filled { programme, .. } => self.add_filled(programmes, place, programme),
+            } => self.add_matched(programmes, residents, record_no, resident, programme),
+            Mark::Unmatched { resident } => self.add_unmatched(residents, record_no, resident),
+            Mark::Filled { programme, .. } => self.add_filled(programmes, record_no, programme),
         }
     }
 
@@ -229,13 +230,13 @@ impl Marks {
         requires sizes { IsSized self.old (length programmes.now) (length residents.now) }
         ensures sizes { OnOk result
             (IsSized self.new (length programmes.now) (length residents.now)) }
-        ensures marked { OnOk result ((texts : Fields) (all_rows : List Fields)
-            → AreSheetRows texts rows.now all_rows
-            → AreKnown texts programmes.now residents.now all_rows
+        ensures marked { OnOk result ((name_texts : Fields) (all_rows : List Fields)
+            → AreSheetRows name_texts rows.now all_rows
+            → AreKnown name_texts programmes.now residents.now all_rows
             → IsMarked self.old all_rows [] → IsMarked self.new all_rows all_rows) }
-        ensures fault { (texts : Fields) (all_rows : List Fields)
-            → AreSheetRows texts rows.now all_rows
-            → AreKnown texts programmes.now residents.now all_rows
+        ensures fault { (name_texts : Fields) (all_rows : List Fields)
+            → AreSheetRows name_texts rows.now all_rows
+            → AreKnown name_texts programmes.now residents.now all_rows
             → IsMarked self.old all_rows []
             → Answers (first_from (mark_fault all_rows) [] all_rows) result }
     {
@@ -257,15 +258,15 @@ impl Marks {
     fn is_right(&self, programmes: &Members, kept: SheetRow, instance: &Instance) -> bool
         requires sizes { length self.now.matched_counts.items ≡ length programmes.now }
         requires quotas { length instance.now.quotas ≡ length programmes.now }
-        ensures { (texts : Fields) (residents : List ℕ) (all_rows rows_before : List Fields)
+        ensures { (name_texts : Fields) (residents : List ℕ) (all_rows rows_before : List Fields)
             (row : Fields)
-            → StandsAfter texts programmes.now residents all_rows rows_before
-            kept.place kept.mark row
+            → StandsAfter name_texts programmes.now residents all_rows rows_before
+            kept.record_no kept.mark row
             → IsMarked self.now all_rows all_rows
             → instance.now.quotas ≡ quotas_of all_rows
             → first_from (mark_fault all_rows) [] all_rows ≡ None
             → filled_fault all_rows rows_before row ≡ unless result
-            (DocketFault.BadSheet kept.place) }
+            (DocketFault.BadSheet kept.record_no) }
     {
         let Mark::Filled {
             programme,
@@ -292,16 +293,18 @@ impl Marks {
     ) -> Result<(), DocketFault>
         requires sizes { length self.now.matched_counts.items ≡ length programmes.now }
         requires quotas { length instance.now.quotas ≡ length programmes.now }
-        ensures { (texts : Fields) (residents : List ℕ) (all_rows : List Fields)
-            → AreSheetRows texts rows.now all_rows
-            → AreKnown texts programmes.now residents all_rows
+        ensures { (name_texts : Fields) (residents : List ℕ) (all_rows : List Fields)
+            → AreSheetRows name_texts rows.now all_rows
+            → AreKnown name_texts programmes.now residents all_rows
             → IsMarked self.now all_rows all_rows → instance.now.quotas ≡ quotas_of all_rows
             → first_from (mark_fault all_rows) [] all_rows ≡ None
             → Answers (first_from (filled_fault all_rows) [] all_rows) result }
     {
         for kept in rows {
             if !self.is_right(programmes, *kept, instance) {
-                return Err(DocketFault::BadSheet { place: kept.place });
+                return Err(DocketFault::BadSheet {
+                    place: kept.record_no,
+                });
             }
         }
         Ok(())
@@ -318,13 +321,14 @@ pub(crate) fn sheet_of(
     instance: &Instance,
 ) -> Result<Assignment, DocketFault>
     requires quotas { length instance.now.quotas ≡ length programmes.now }
-    ensures sheet { IfOk result (λ sheet. (texts : Fields) (all_rows : List Fields)
-        → AreSheetRows texts rows.now all_rows
-        → AreKnown texts programmes.now residents.now all_rows
+    ensures sheet { IfOk result (λ sheet. (name_texts : Fields) (all_rows : List Fields)
+        → AreSheetRows name_texts rows.now all_rows
+        → AreKnown name_texts programmes.now residents.now all_rows
         → instance.now.quotas ≡ quotas_of all_rows → records ≡ length all_rows
         → sheet ≡ placement_of all_rows) }
-    ensures fault { (texts : Fields) (all_rows : List Fields) → AreSheetRows texts rows.now all_rows
-        → AreKnown texts programmes.now residents.now all_rows
+    ensures fault { (name_texts : Fields) (all_rows : List Fields)
+        → AreSheetRows name_texts rows.now all_rows
+        → AreKnown name_texts programmes.now residents.now all_rows
         → instance.now.quotas ≡ quotas_of all_rows
         → records ≡ length all_rows → Answers (placement_fault all_rows) result }
 {
