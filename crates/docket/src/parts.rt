@@ -28,8 +28,8 @@ fn read_file(
     reading: &mut Reading,
 ) -> Result<(), FileFault>
     requires within { reading.old.records ≤ most_records_in reading.old.declared.builder.limits }
-    requires workers { IfSome reading.old.declared.workers (λ n. n ≤ 8) }
-    ensures workers { OnOk result (IfSome reading.new.declared.workers (λ n. n ≤ 8)) }
+    requires workers { IfSome reading.old.declared.workers (λ count. count ≤ 8) }
+    ensures workers { OnOk result (IfSome reading.new.declared.workers (λ count. count ≤ 8)) }
     ensures passed { OnOk result ((kept_rows : List Fields) → IsPassed reading.old kept_rows
         → GoesOn (Some file) kept_rows (Some (rows_of bytes.now)) reading.new) }
     ensures limits { OnOk result
@@ -54,7 +54,7 @@ fn read_three(
     reading: &mut Reading,
 ) -> Result<Ends, FileFault>
     requires empty { IsReading reading.old [] }
-    requires workers { IfSome reading.old.declared.workers (λ n. n ≤ 8) }
+    requires workers { IfSome reading.old.declared.workers (λ count. count ≤ 8) }
     ensures own { OnOk result (files_fault
         reading.old.declared.builder.limits docket.now sheet.now journal.now ≡ None) }
     ensures passed { OnOk result

@@ -18,7 +18,7 @@ impl Model for ProgrammeLists {
 
     ghost Value = { List (Option (List ℕ)) };
 
-    ghost view = { λ a. map items_of a.lists.items };
+    ghost view = { λ programme_lists. map items_of programme_lists.lists.items };
 }
 
 // Puts a list at index `programme_index`, if there is such an index.

@@ -27,14 +27,14 @@ pub(crate) struct Reading {
 impl Reading {
     /// What the first pass keeps before any record is read. Texts that are added later are hashed with these keys,
     /// and declarations have to be within these limits.
-    pub(crate) fn new(alloc: Global, keys: RandomState, limits: Limits) -> Reading
+    pub(crate) fn new(alloc: Global, hash_keys: RandomState, limits: Limits) -> Reading
         ensures reading { IsReading result [] }
         ensures limits { result.declared.builder.limits ≡ limits }
-        ensures workers { IfSome result.declared.workers (λ n. n ≤ 8) }
+        ensures workers { IfSome result.declared.workers (λ count. count ≤ 8) }
     {
         Reading {
             records: 0,
-            name_texts: Texts::new(alloc, keys),
+            name_texts: Texts::new(alloc, hash_keys),
             declared: Declarations::new(alloc, limits),
             lists: Lists::new(alloc),
             sheet: SheetRows::new(alloc),

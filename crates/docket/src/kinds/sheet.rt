@@ -16,31 +16,34 @@ use csv::ByteRecord;
 use docket_names::{Texts, is_name, number_of};
 use records::field;
 
-// Tests that field `i` is a name.
-fn check_name(row: &ByteRecord, i: usize, record_no: u32) -> Result<(), DocketFault>
+// Tests that field `field_index` is a name.
+fn check_name(row: &ByteRecord, field_index: usize, record_no: u32) -> Result<(), DocketFault>
     ensures { Answers
-        (unless (named (field_of (fields_of row.now) i)) (DocketFault.BadName record_no)) result }
+        (unless (named (field_of (fields_of row.now) field_index))
+        (DocketFault.BadName record_no)) result }
 {
-    if is_name(field(row, i)) {
+    if is_name(field(row, field_index)) {
         Ok(())
     } else {
         Err(DocketFault::BadName { place: record_no })
     }
 }
 
-// The number of the name in field `i`. A new name is added to the texts.
+// The number of the name in field `field_index`. A new name is added to the texts.
 fn name_in(
     name_texts: &mut Texts,
     row: &ByteRecord,
-    i: usize,
+    field_index: usize,
     record_no: u32,
 ) -> Result<u32, DocketFault>
     ensures texts { StartsWith name_texts.old name_texts.new }
-    ensures number { IfOk result (λ n. IsText name_texts.new n i (fields_of row.now)) }
+    ensures number { IfOk result (λ number.
+        IsText name_texts.new number field_index (fields_of row.now)) }
     ensures fault { Answers
-        (unless (named (field_of (fields_of row.now) i)) (DocketFault.BadName record_no)) result }
+        (unless (named (field_of (fields_of row.now) field_index))
+        (DocketFault.BadName record_no)) result }
 {
-    let Some(number) = name_texts.name(field(row, i))? else {
+    let Some(number) = name_texts.name(field(row, field_index))? else {
         return Err(DocketFault::BadName { place: record_no });
     };
     match u32::try_from(number) {
@@ -49,14 +52,15 @@ fn name_in(
     }
 }
 
-// The number in field `i` of an F row.
-fn count_in(row: &ByteRecord, i: usize, record_no: u32) -> Result<u32, DocketFault>
-    ensures number { IfOk result (λ n. number_in (field_of (fields_of row.now) i) ≡ Some n) }
+// The number in field `field_index` of an F row.
+fn count_in(row: &ByteRecord, field_index: usize, record_no: u32) -> Result<u32, DocketFault>
+    ensures number { IfOk result (λ number.
+        number_in (field_of (fields_of row.now) field_index) ≡ Some number) }
     ensures fault { Answers
-        (unless (is_number (field_of (fields_of row.now) i))
+        (unless (is_number (field_of (fields_of row.now) field_index))
         (DocketFault.BadSheet record_no)) result }
 {
-    match number_of(field(row, i)) {
+    match number_of(field(row, field_index)) {
         Some(number) => Ok(number),
         None => Err(DocketFault::BadSheet { place: record_no }),
     }
@@ -122,8 +126,9 @@ pub(crate) fn unmatched_row(
 
 // The number of residents and the quota in an F row.
 fn counts_in(row: &ByteRecord, record_no: u32) -> Result<(u32, u32), DocketFault>
-    ensures numbers { IfOk result (λ n. (number_in (field_of (fields_of row.now) 2) ≡ Some n.0)
-        × (number_in (field_of (fields_of row.now) 3) ≡ Some n.1)) }
+    ensures numbers { IfOk result (λ counts.
+        (number_in (field_of (fields_of row.now) 2) ≡ Some counts.0)
+        × (number_in (field_of (fields_of row.now) 3) ≡ Some counts.1)) }
     ensures fault { Answers (unless (is_number (field_of (fields_of row.now) 2)
         && is_number (field_of (fields_of row.now) 3)) (DocketFault.BadSheet record_no)) result }
 {

@@ -27,44 +27,48 @@ use docket_names::Members;
 use match_model::{Instance, InstanceBuilder, ProgrammeNo, ResidentNo, WrittenLists};
 use std::alloc::{AllocError, Global};
 
-// Fills `listed` with the residents whose names have these numbers.
+// Fills `list_buffer` with the residents whose names have these numbers.
 fn listed_residents(
     record_no: u32,
-    names: &[u32],
+    name_numbers: &[u32],
     residents: &Members,
-    listed: &mut Vec<ResidentNo>,
+    list_buffer: &mut Vec<ResidentNo>,
 ) -> Result<(), DocketFault>
-    ensures listed { OnOk result (listed.new.items ≡ map (member_at residents.now) names.now) }
+    ensures listed { OnOk result
+        (list_buffer.new.items ≡ map (member_at residents.now) name_numbers.now) }
     ensures fault { Answers
-        (unless (list_all (is_member residents.now) names.now) (UnknownName record_no)) result }
+        (unless (list_all (is_member residents.now) name_numbers.now)
+        (UnknownName record_no)) result }
 {
-    listed.clear();
-    for name in names {
+    list_buffer.clear();
+    for name in name_numbers {
         let Some(resident) = residents.member(*name as usize) else {
             return Err(DocketFault::UnknownName { place: record_no });
         };
-        listed.push(ResidentNo(resident))?;
+        list_buffer.push(ResidentNo(resident))?;
     }
     Ok(())
 }
 
-// Fills `listed` with the programmes whose names have these numbers.
+// Fills `list_buffer` with the programmes whose names have these numbers.
 fn listed_programmes(
     record_no: u32,
-    names: &[u32],
+    name_numbers: &[u32],
     programmes: &Members,
-    listed: &mut Vec<ProgrammeNo>,
+    list_buffer: &mut Vec<ProgrammeNo>,
 ) -> Result<(), DocketFault>
-    ensures listed { OnOk result (listed.new.items ≡ map (member_at programmes.now) names.now) }
+    ensures listed { OnOk result
+        (list_buffer.new.items ≡ map (member_at programmes.now) name_numbers.now) }
     ensures fault { Answers
-        (unless (list_all (is_member programmes.now) names.now) (UnknownName record_no)) result }
+        (unless (list_all (is_member programmes.now) name_numbers.now)
+        (UnknownName record_no)) result }
 {
-    listed.clear();
-    for name in names {
+    list_buffer.clear();
+    for name in name_numbers {
         let Some(programme) = programmes.member(*name as usize) else {
             return Err(DocketFault::UnknownName { place: record_no });
         };
-        listed.push(ProgrammeNo(programme))?;
+        list_buffer.push(ProgrammeNo(programme))?;
     }
     Ok(())
 }
@@ -77,25 +81,25 @@ fn rank_residents(
     residents: &Members,
     builder: &mut InstanceBuilder,
     programme_lists: &mut ProgrammeLists,
-    listed: &mut Vec<ResidentNo>,
+    list_buffer: &mut Vec<ResidentNo>,
 ) -> Result<(), DocketFault>
-    ensures ranked { OnOk result ((name_texts : Fields) (rows : List Fields) (k : ℕ)
-        → IsNext name_texts programmes.now residents.now builder.old rows k
+    ensures ranked { OnOk result ((name_texts : Fields) (rows : List Fields) (record_index : ℕ)
+        → IsNext name_texts programmes.now residents.now builder.old rows record_index
         (record {
           record_no = row.now.record_no;
           kind = Ranking Programmes;
           owner = row.now.owner;
-          listed = row.now.listed.now;
-        }) → IsRanked builder.new rows (take (k + 1) rows)) }
-    ensures fault { (name_texts : Fields) (rows : List Fields) (k : ℕ)
-        → IsNext name_texts programmes.now residents.now builder.old rows k
+          listed = row.now.listed_names.now;
+        }) → IsRanked builder.new rows (take (record_index + 1) rows)) }
+    ensures fault { (name_texts : Fields) (rows : List Fields) (record_index : ℕ)
+        → IsNext name_texts programmes.now residents.now builder.old rows record_index
         (record {
           record_no = row.now.record_no;
           kind = Ranking Programmes;
           owner = row.now.owner;
-          listed = row.now.listed.now;
+          listed = row.now.listed_names.now;
         })
-        → Answers (ranking_fault rows (take k rows) (row_at rows k)) result }
+        → Answers (ranking_fault rows (take record_index rows) (row_at rows record_index)) result }
     ensures limits { OnOk result (builder.new.limits ≡ builder.old.limits) }
     ensures given { OnOk result (programme_lists.old ≡ builder.old.programme_lists
         → programme_lists.new ≡ builder.new.programme_lists) }
@@ -105,8 +109,8 @@ fn rank_residents(
             place: row.record_no,
         });
     };
-    listed_residents(row.record_no, row.listed, residents, listed)?;
-    let (owner, list) = (ProgrammeNo(owner), listed.as_slice());
+    listed_residents(row.record_no, row.listed_names, residents, list_buffer)?;
+    let (owner, list) = (ProgrammeNo(owner), list_buffer.as_slice());
     programme_lists.give(alloc, owner, list)?;
     match builder.programme_list(owner, list) {
         Ok(()) => Ok(()),
@@ -120,25 +124,25 @@ fn rank_programmes(
     programmes: &Members,
     residents: &Members,
     builder: &mut InstanceBuilder,
-    listed: &mut Vec<ProgrammeNo>,
+    list_buffer: &mut Vec<ProgrammeNo>,
 ) -> Result<(), DocketFault>
-    ensures ranked { OnOk result ((name_texts : Fields) (rows : List Fields) (k : ℕ)
-        → IsNext name_texts programmes.now residents.now builder.old rows k
+    ensures ranked { OnOk result ((name_texts : Fields) (rows : List Fields) (record_index : ℕ)
+        → IsNext name_texts programmes.now residents.now builder.old rows record_index
         (record {
           record_no = row.now.record_no;
           kind = Ranking Residents;
           owner = row.now.owner;
-          listed = row.now.listed.now;
-        }) → IsRanked builder.new rows (take (k + 1) rows)) }
-    ensures fault { (name_texts : Fields) (rows : List Fields) (k : ℕ)
-        → IsNext name_texts programmes.now residents.now builder.old rows k
+          listed = row.now.listed_names.now;
+        }) → IsRanked builder.new rows (take (record_index + 1) rows)) }
+    ensures fault { (name_texts : Fields) (rows : List Fields) (record_index : ℕ)
+        → IsNext name_texts programmes.now residents.now builder.old rows record_index
         (record {
           record_no = row.now.record_no;
           kind = Ranking Residents;
           owner = row.now.owner;
-          listed = row.now.listed.now;
+          listed = row.now.listed_names.now;
         })
-        → Answers (ranking_fault rows (take k rows) (row_at rows k)) result }
+        → Answers (ranking_fault rows (take record_index rows) (row_at rows record_index)) result }
     ensures limits { OnOk result (builder.new.limits ≡ builder.old.limits) }
     ensures same { OnOk result (builder.new.programme_lists ≡ builder.old.programme_lists) }
 {
@@ -147,8 +151,8 @@ fn rank_programmes(
             place: row.record_no,
         });
     };
-    listed_programmes(row.record_no, row.listed, programmes, listed)?;
-    match builder.resident_list(ResidentNo(owner), listed.as_slice()) {
+    listed_programmes(row.record_no, row.listed_names, programmes, list_buffer)?;
+    match builder.resident_list(ResidentNo(owner), list_buffer.as_slice()) {
         Ok(()) => Ok(()),
         Err(fault) => Err(model_fault(row.record_no, fault)),
     }
@@ -161,23 +165,23 @@ fn withdraw_programme(
     builder: &mut InstanceBuilder,
 ) -> Result<(), DocketFault>
     ensures ranked { OnOk result ((name_texts : Fields) (rows : List Fields)
-        (residents : List ℕ) (k : ℕ)
-        → IsNext name_texts programmes.now residents builder.old rows k (record {
+        (residents : List ℕ) (record_index : ℕ)
+        → IsNext name_texts programmes.now residents builder.old rows record_index (record {
           record_no = row.now.record_no;
           kind = Withdrawal Programmes;
           owner = row.now.owner;
           listed = [];
         })
-        → IsRanked builder.new rows (take (k + 1) rows)) }
+        → IsRanked builder.new rows (take (record_index + 1) rows)) }
     ensures fault { (name_texts : Fields) (rows : List Fields)
-        (residents : List ℕ) (k : ℕ)
-        → IsNext name_texts programmes.now residents builder.old rows k (record {
+        (residents : List ℕ) (record_index : ℕ)
+        → IsNext name_texts programmes.now residents builder.old rows record_index (record {
           record_no = row.now.record_no;
           kind = Withdrawal Programmes;
           owner = row.now.owner;
           listed = [];
         })
-        → Answers (ranking_fault rows (take k rows) (row_at rows k)) result }
+        → Answers (ranking_fault rows (take record_index rows) (row_at rows record_index)) result }
     ensures limits { OnOk result (builder.new.limits ≡ builder.old.limits) }
     ensures same { OnOk result (builder.new.programme_lists ≡ builder.old.programme_lists) }
 {
@@ -199,22 +203,23 @@ fn withdraw_resident(
     builder: &mut InstanceBuilder,
 ) -> Result<(), DocketFault>
     ensures ranked { OnOk result ((name_texts : Fields) (rows : List Fields)
-        (programmes : List ℕ) (k : ℕ)
-        → IsNext name_texts programmes residents.now builder.old rows k
+        (programmes : List ℕ) (record_index : ℕ)
+        → IsNext name_texts programmes residents.now builder.old rows record_index
         (record {
           record_no = row.now.record_no;
           kind = Withdrawal Residents;
           owner = row.now.owner;
           listed = [];
-        }) → IsRanked builder.new rows (take (k + 1) rows)) }
-    ensures fault { (name_texts : Fields) (rows : List Fields) (programmes : List ℕ) (k : ℕ)
-        → IsNext name_texts programmes residents.now builder.old rows k (record {
+        }) → IsRanked builder.new rows (take (record_index + 1) rows)) }
+    ensures fault { (name_texts : Fields) (rows : List Fields)
+        (programmes : List ℕ) (record_index : ℕ)
+        → IsNext name_texts programmes residents.now builder.old rows record_index (record {
           record_no = row.now.record_no;
           kind = Withdrawal Residents;
           owner = row.now.owner;
           listed = [];
         })
-        → Answers (ranking_fault rows (take k rows) (row_at rows k)) result }
+        → Answers (ranking_fault rows (take record_index rows) (row_at rows record_index)) result }
     ensures limits { OnOk result (builder.new.limits ≡ builder.old.limits) }
     ensures same { OnOk result (builder.new.programme_lists ≡ builder.old.programme_lists) }
 {
@@ -229,7 +234,7 @@ fn withdraw_resident(
     }
 }
 
-// Gives the builder the list or the withdrawal in row `j` of the store.
+// Gives the builder the list or the withdrawal in this row of the store.
 fn rank_row(
     alloc: Global,
     lists: &Lists,
@@ -243,14 +248,15 @@ fn rank_row(
 ) -> Result<(), DocketFault>
     requires { row_index < length lists.now.entries }
     ensures ranked { OnOk result ((name_texts : Fields) (rows : List Fields)
-        (k : ℕ) (entry : KeptEntry)
+        (record_index : ℕ) (entry : KeptEntry)
         → slice_get lists.now.entries row_index ≡ Some entry
-        → IsNext name_texts programmes.now residents.now builder.old rows k entry
-        → IsRanked builder.new rows (take (k + 1) rows)) }
-    ensures fault { (name_texts : Fields) (rows : List Fields) (k : ℕ) (entry : KeptEntry)
+        → IsNext name_texts programmes.now residents.now builder.old rows record_index entry
+        → IsRanked builder.new rows (take (record_index + 1) rows)) }
+    ensures fault { (name_texts : Fields) (rows : List Fields)
+        (record_index : ℕ) (entry : KeptEntry)
         → slice_get lists.now.entries row_index ≡ Some entry
-        → IsNext name_texts programmes.now residents.now builder.old rows k entry
-        → Answers (ranking_fault rows (take k rows) (row_at rows k)) result }
+        → IsNext name_texts programmes.now residents.now builder.old rows record_index entry
+        → Answers (ranking_fault rows (take record_index rows) (row_at rows record_index)) result }
     ensures limits { OnOk result (builder.new.limits ≡ builder.old.limits) }
     ensures given { OnOk result (programme_lists.old ≡ builder.old.programme_lists
         → programme_lists.new ≡ builder.new.programme_lists) }
@@ -295,11 +301,11 @@ fn rank(
 {
     let mut listed_by_programme = Vec::new(alloc);
     let mut listed_by_resident = Vec::new(alloc);
-    for j in 0..lists.len() {
+    for row_index in 0..lists.len() {
         rank_row(
             alloc,
             lists,
-            j,
+            row_index,
             programmes,
             residents,
             builder,

@@ -54,9 +54,9 @@ fn known_member(members: &Members, text: u32, record_no: u32) -> Result<u32, Doc
 struct Marks {
     sheet: Assignment,
     // For each resident, whether an M or U row of this resident was read.
-    marked: Vec<bool>,
+    marked_residents: Vec<bool>,
     // For each programme, whether an F row of this programme was read.
-    filled: Vec<bool>,
+    filled_programmes: Vec<bool>,
     // For each programme, the number of M rows with this programme.
     matched_counts: Vec<u32>,
 }
@@ -67,7 +67,7 @@ impl Marks {
     // The marks before any row of the sheet is read.
     fn new(alloc: Global, programmes: usize, residents: usize) -> Result<Marks, DocketFault>
         ensures blank { IfOk result (λ marks. IsBlank marks programmes residents) }
-        ensures memory { IfErr result (λ e. e ≡ DocketFault.Memory) }
+        ensures memory { IfErr result (λ fault. fault ≡ DocketFault.Memory) }
     {
         let Ok(resident_count) = u32::try_from(residents) else {
             return Err(DocketFault::Memory);
@@ -75,13 +75,13 @@ impl Marks {
         let Ok(sheet) = Assignment::new(alloc, resident_count) else {
             return Err(DocketFault::Memory);
         };
-        let marked = flags(alloc, residents)?;
-        let filled = flags(alloc, programmes)?;
+        let marked_residents = flags(alloc, residents)?;
+        let filled_programmes = flags(alloc, programmes)?;
         let matched_counts = zeros(alloc, programmes)?;
         Ok(Marks {
             sheet,
-            marked,
-            filled,
+            marked_residents,
+            filled_programmes,
             matched_counts,
         })
     }
@@ -112,10 +112,10 @@ impl Marks {
     {
         let resident = known_member(residents, resident, record_no)?;
         let programme = known_member(programmes, programme, record_no)?;
-        if self.marked[resident as usize] {
+        if self.marked_residents[resident as usize] {
             return Err(DocketFault::BadSheet { place: record_no });
         }
-        self.marked[resident as usize] = true;
+        self.marked_residents[resident as usize] = true;
         self.matched_counts[programme as usize] =
             self.matched_counts[programme as usize].saturating_add(1);
         self.sheet
@@ -130,7 +130,7 @@ impl Marks {
         record_no: u32,
         resident: u32,
     ) -> Result<(), DocketFault>
-        requires sizes { length self.old.marked.items ≡ length residents.now }
+        requires sizes { length self.old.marked_residents.items ≡ length residents.now }
         ensures sizes { (programmes : ℕ) → IsSized self.old programmes (length residents.now)
             → OnOk result (IsSized self.new programmes (length residents.now)) }
         ensures marked { (programmes : List ℕ)
@@ -147,10 +147,10 @@ impl Marks {
             → Answers (mark_fault all_rows rows_before row) result }
     {
         let resident = known_member(residents, resident, record_no)?;
-        if self.marked[resident as usize] {
+        if self.marked_residents[resident as usize] {
             return Err(DocketFault::BadSheet { place: record_no });
         }
-        self.marked[resident as usize] = true;
+        self.marked_residents[resident as usize] = true;
         Ok(())
     }
 
@@ -162,7 +162,7 @@ impl Marks {
         record_no: u32,
         programme: u32,
     ) -> Result<(), DocketFault>
-        requires sizes { length self.old.filled.items ≡ length programmes.now }
+        requires sizes { length self.old.filled_programmes.items ≡ length programmes.now }
         ensures sizes { (residents : ℕ) → IsSized self.old (length programmes.now) residents
             → OnOk result (IsSized self.new (length programmes.now) residents) }
         ensures marked { (filled quota : ℕ) (residents : List ℕ)
@@ -180,10 +180,10 @@ impl Marks {
             → Answers (mark_fault all_rows rows_before row) result }
     {
         let programme = known_member(programmes, programme, record_no)?;
-        if self.filled[programme as usize] {
+        if self.filled_programmes[programme as usize] {
             return Err(DocketFault::BadSheet { place: record_no });
         }
-        self.filled[programme as usize] = true;
+        self.filled_programmes[programme as usize] = true;
         Ok(())
     }
 
@@ -192,7 +192,7 @@ impl Marks {
         &mut self,
         programmes: &Members,
         residents: &Members,
-        kept: SheetRow,
+        sheet_row: SheetRow,
     ) -> Result<(), DocketFault>
         requires sizes { IsSized self.old (length programmes.now) (length residents.now) }
         ensures sizes { OnOk result
@@ -200,17 +200,17 @@ impl Marks {
         ensures marked { OnOk result ((name_texts : Fields) (all_rows rows_before : List Fields)
             (row : Fields)
             → StandsAfter name_texts programmes.now residents.now all_rows rows_before
-            kept.record_no kept.mark row
+            sheet_row.record_no sheet_row.mark row
             → IsMarked self.old all_rows rows_before
             → IsMarked self.new all_rows (rows_before ++ row ∷ [])) }
         ensures fault { (name_texts : Fields) (all_rows rows_before : List Fields) (row : Fields)
             → StandsAfter name_texts programmes.now residents.now all_rows rows_before
-            kept.record_no kept.mark row
+            sheet_row.record_no sheet_row.mark row
             → IsMarked self.old all_rows rows_before
             → Answers (mark_fault all_rows rows_before row) result }
     {
-        let record_no = kept.record_no;
-        match kept.mark {
+        let record_no = sheet_row.record_no;
+        match sheet_row.mark {
             Mark::Matched {
                 resident,
                 programme,
@@ -240,8 +240,8 @@ impl Marks {
             → IsMarked self.old all_rows []
             → Answers (first_from (mark_fault all_rows) [] all_rows) result }
     {
-        for kept in rows {
-            self.add_row(programmes, residents, *kept)?;
+        for sheet_row in rows {
+            self.add_row(programmes, residents, *sheet_row)?;
         }
         Ok(())
     }
@@ -249,30 +249,31 @@ impl Marks {
     // Whether each resident has an M or U row, and each programme has an F row.
     fn is_complete(&self) -> bool
         ensures { result ≡ (list_all (λ flag.
-            flag) self.now.marked.items && list_all (λ flag. flag) self.now.filled.items) }
+            flag) self.now.marked_residents.items
+            && list_all (λ flag. flag) self.now.filled_programmes.items) }
     {
-        all_set(self.marked.as_slice()) && all_set(self.filled.as_slice())
+        all_set(self.marked_residents.as_slice()) && all_set(self.filled_programmes.as_slice())
     }
 
     // Whether a kept row agrees with the number of M rows and with the quota, if the row is an F row.
-    fn is_right(&self, programmes: &Members, kept: SheetRow, instance: &Instance) -> bool
+    fn is_right(&self, programmes: &Members, sheet_row: SheetRow, instance: &Instance) -> bool
         requires sizes { length self.now.matched_counts.items ≡ length programmes.now }
         requires quotas { length instance.now.quotas ≡ length programmes.now }
         ensures { (name_texts : Fields) (residents : List ℕ) (all_rows rows_before : List Fields)
             (row : Fields)
             → StandsAfter name_texts programmes.now residents all_rows rows_before
-            kept.record_no kept.mark row
+            sheet_row.record_no sheet_row.mark row
             → IsMarked self.now all_rows all_rows
             → instance.now.quotas ≡ quotas_of all_rows
             → first_from (mark_fault all_rows) [] all_rows ≡ None
             → filled_fault all_rows rows_before row ≡ unless result
-            (DocketFault.BadSheet kept.record_no) }
+            (DocketFault.BadSheet sheet_row.record_no) }
     {
         let Mark::Filled {
             programme,
             filled,
             quota,
-        } = kept.mark
+        } = sheet_row.mark
         else {
             return true;
         };
@@ -300,10 +301,10 @@ impl Marks {
             → first_from (mark_fault all_rows) [] all_rows ≡ None
             → Answers (first_from (filled_fault all_rows) [] all_rows) result }
     {
-        for kept in rows {
-            if !self.is_right(programmes, *kept, instance) {
+        for sheet_row in rows {
+            if !self.is_right(programmes, *sheet_row, instance) {
                 return Err(DocketFault::BadSheet {
-                    place: kept.record_no,
+                    place: sheet_row.record_no,
                 });
             }
         }

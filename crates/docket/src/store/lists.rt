@@ -40,7 +40,7 @@ pub(crate) struct ListRow<'a> {
     pub(crate) record_no: u32,
     pub(crate) kind: ListKind,
     pub(crate) owner: u32,
-    pub(crate) listed: &'a [u32],
+    pub(crate) listed_names: &'a [u32],
 }
 
 /// The rank lists and withdrawals in order. Each name is kept as the number of its text.
@@ -61,10 +61,13 @@ impl Model for Lists {
 
     ghost Value = { KeptLists };
 
-    ghost view = { λ a.
-        record { entries = map (entry_at a.names.items) a.rows.items; brought = a.new_names } };
+    ghost view = { λ lists.
+        record {
+          entries = map (entry_at lists.names.items) lists.rows.items;
+          brought = lists.new_names;
+        } };
 
-    ghost invariant = { λ a. ArePartsOf a.names.items a.rows.items };
+    ghost invariant = { λ lists. ArePartsOf lists.names.items lists.rows.items };
 }
 
 // The count of new names, after the number of texts grew from `texts_before` to `texts_after`. Once there are too
@@ -90,11 +93,11 @@ fn number_name(
     name_texts: &mut Texts,
     text: &[u8],
 ) -> Result<Option<usize>, AllocError>
-    ensures named { IfOk result (λ n. is_some n ≡ words.is_name text.now) }
-    ensures number { IfOk result (λ n. IfSome n (λ number. slice_get name_texts.new number
+    ensures named { IfOk result (λ number. is_some number ≡ words.is_name text.now) }
+    ensures number { IfOk result (λ number. IfSome number (λ number. slice_get name_texts.new number
         ≡ Some text.now)) }
     ensures texts { StartsWith name_texts.old name_texts.new }
-    ensures joined { IfOk result (λ n. IsJoined name_texts.old name_texts.new text.now) }
+    ensures joined { IfOk result (λ number. IsJoined name_texts.old name_texts.new text.now) }
     ensures counted { OnOk result (new_names.old ≤ MOST_NAMES
         → new_names.new + length name_texts.old ≡ new_names.old + length name_texts.new) }
     ensures cut { OnOk result (MOST_NAMES < new_names.old → new_names.new ≡ new_names.old) }
@@ -107,14 +110,14 @@ fn number_name(
 
 // Adds a number at the end of the sequence.
 #[inline(always)]
-fn push_number(numbers: &mut Vec<u32>, number: usize) -> Result<(), AllocError>
-    ensures pushed { OnOk result (numbers.new.items ≡ numbers.old.items ++ number ∷ []) }
-    ensures grown { length numbers.old.items ≤ length numbers.new.items }
+fn push_number(name_numbers: &mut Vec<u32>, number: usize) -> Result<(), AllocError>
+    ensures pushed { OnOk result (name_numbers.new.items ≡ name_numbers.old.items ++ number ∷ []) }
+    ensures grown { length name_numbers.old.items ≤ length name_numbers.new.items }
 {
     let Ok(number) = u32::try_from(number) else {
         return Err(AllocError);
     };
-    numbers.push(number)?;
+    name_numbers.push(number)?;
     Ok(())
 }
 
@@ -122,18 +125,18 @@ fn push_number(numbers: &mut Vec<u32>, number: usize) -> Result<(), AllocError>
 // is a name.
 #[inline(always)]
 fn add_name(
-    numbers: &mut Vec<u32>,
+    name_numbers: &mut Vec<u32>,
     new_names: &mut usize,
     name_texts: &mut Texts,
     text: &[u8],
 ) -> Result<bool, AllocError>
     ensures named { IfOk result (λ named. named ≡ words.is_name text.now) }
     ensures walked { IfOk result (λ named. named ≡ true
-        → AreWalked name_texts.old numbers.old.items new_names.old
-        name_texts.new numbers.new.items new_names.new
+        → AreWalked name_texts.old name_numbers.old.items new_names.old
+        name_texts.new name_numbers.new.items new_names.new
         (text.now ∷ [])) }
     ensures texts { StartsWith name_texts.old name_texts.new }
-    ensures grown { length numbers.old.items ≤ length numbers.new.items }
+    ensures grown { length name_numbers.old.items ≤ length name_numbers.new.items }
 {
     if *new_names > MOST_NAMES {
         return Ok(name_texts.known(text).is_some() || is_name(text));
@@ -141,14 +144,14 @@ fn add_name(
     let Some(number) = number_name(new_names, name_texts, text)? else {
         return Ok(false);
     };
-    push_number(numbers, number)?;
+    push_number(name_numbers, number)?;
     Ok(true)
 }
 
 // Tests the names that a rank list has after the name of its owner, and keeps their numbers. Once there are too many
 // new names, the remaining names are only tested. Returns whether all of them are names.
 fn add_names(
-    numbers: &mut Vec<u32>,
+    name_numbers: &mut Vec<u32>,
     new_names: &mut usize,
     name_texts: &mut Texts,
     row: &ByteRecord,
@@ -156,15 +159,15 @@ fn add_names(
     ensures named { IfOk result (λ named.
         named ≡ list_all words.is_name (drop 2 (fields_of row.now))) }
     ensures walked { IfOk result (λ named. named ≡ true
-        → AreWalked name_texts.old numbers.old.items new_names.old
-        name_texts.new numbers.new.items new_names.new
+        → AreWalked name_texts.old name_numbers.old.items new_names.old
+        name_texts.new name_numbers.new.items new_names.new
         (drop 2 (fields_of row.now))) }
     ensures texts { StartsWith name_texts.old name_texts.new }
-    ensures grown { length numbers.old.items ≤ length numbers.new.items }
+    ensures grown { length name_numbers.old.items ≤ length name_numbers.new.items }
 {
     for i in 2..row.len() {
         if let Some(text) = row.get(i) {
-            if !add_name(numbers, new_names, name_texts, text)? {
+            if !add_name(name_numbers, new_names, name_texts, text)? {
                 return Ok(false);
             }
         }
@@ -316,15 +319,15 @@ impl Lists {
           record_no = result.record_no;
           kind = result.kind;
           owner = result.owner;
-          listed = result.listed.now;
+          listed = result.listed_names.now;
         }) }
     {
         let row = self.rows[k];
         ListRow {
-            place: row.record_no,
+            record_no: row.record_no,
             kind: row.kind,
             owner: row.owner,
-            listed: &self.names[row.start as usize..row.end as usize],
+            listed_names: &self.names[row.start as usize..row.end as usize],
         }
     }
 }

@@ -48,7 +48,7 @@ impl Model for SheetRows {
 
     ghost Value = { List SheetRow };
 
-    ghost view = { λ s. s.rows.items };
+    ghost view = { λ sheet_rows. sheet_rows.rows.items };
 }
 
 impl SheetRows {

@@ -8,7 +8,7 @@ use Rattle.docket.proofs.store.lists.add_names.Goals.{in-Some+in_ok-add_name+els
 use Rattle.docket.proofs.ListCountFacts.{part_more}
 
 pub loop-i-init : goal.loop-i-init
-loop-i-init c = (walked_none c.args.name_texts.now c.args.numbers.now.items c.args.new_names.now, omega arith, refl)
+loop-i-init c = (walked_none c.args.name_texts.now c.args.name_numbers.now.items c.args.new_names.now, omega arith, refl)
 
 pub returns-in_err-add_name-clause-texts : goal.returns-in_err-add_name-clause-texts
 returns-in_err-add_name-clause-texts c =
@@ -25,7 +25,7 @@ returns-then-not-branch-clause-texts c =
 pub loop-i-preserved : goal.loop-i-preserved
 loop-i-preserved c = elim c.match-get.branch [
   | in-Some+in_ok-add_name+else-not-branch w ↦ (
-    rw (w.name_texts-is, w.numbers-is, w.new_names-is, ← part_more (fields_of c.args.row.now) 2 c.loop-i.i w.in-Some.text.now c.loop-i.invariant.1 (omega arith) (sym w.in-Some.ensures.value))
+    rw (w.name_texts-is, w.name_numbers-is, w.new_names-is, ← part_more (fields_of c.args.row.now) 2 c.loop-i.i w.in-Some.text.now c.loop-i.invariant.1 (omega arith) (sym w.in-Some.ensures.value))
         (walked_more _ _ _ _ _ _ _ _ _ (take (c.loop-i.i - 2) (drop 2 (fields_of c.args.row.now))) w.in-Some.text.now c.loop-i.invariant.0 (w.in_ok-add_name.ensures.walked w.if-not-branch.false)),
     omega (arith, c.loop-i.invariant.1),
     names_more (fields_of c.args.row.now) c.loop-i.i w.in-Some.text.now c.loop-i.invariant.1 (omega arith) (sym w.in-Some.ensures.value) c.loop-i.invariant.2 (sym w.in_ok-add_name.ensures.named ∙ w.if-not-branch.false),
