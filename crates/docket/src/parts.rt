@@ -147,9 +147,9 @@ pub fn read_parts_with_lists<H: RandomSource>(
     ensures fault { IfErr result
         (Tells (fault_of_files limits docket.now sheet.now journal.now)) }
 {
-    let (docket, lists) = parts_as(rt, alloc, limits, docket, sheet, journal, true)?;
-    let Some((lists, programme_lists)) = lists else {
+    let (docket, lists_read) = parts_as(rt, alloc, limits, docket, sheet, journal, true)?;
+    let Some((written_lists, programme_lists)) = lists_read else {
         unreachable!("the lists are kept");
     };
-    Ok((docket, lists, programme_lists))
+    Ok((docket, written_lists, programme_lists))
 }

@@ -68,7 +68,7 @@ fn count_in(row: &ByteRecord, field_index: usize, record_no: u32) -> Result<u32,
 
 /// Checks and keeps `M,resident,programme`.
 pub(crate) fn matched_row(
-    sheet: &mut SheetRows,
+    sheet_rows: &mut SheetRows,
     name_texts: &mut Texts,
     row: &ByteRecord,
     record_no: u32,
@@ -76,20 +76,20 @@ pub(crate) fn matched_row(
     requires kind { kind_of (fields_of row.now) ≡ MATCHED }
     ensures texts { StartsWith name_texts.old name_texts.new }
     ensures kept { OnOk result ((rows : List Fields)
-        → record_no ≡ next_place rows → AreSheetRows name_texts.old sheet.old rows
-        → AreSheetRows name_texts.new sheet.new (rows ++ fields_of row.now ∷ [])) }
+        → record_no ≡ next_place rows → AreSheetRows name_texts.old sheet_rows.old rows
+        → AreSheetRows name_texts.new sheet_rows.new (rows ++ fields_of row.now ∷ [])) }
     ensures fault { Answers (matched_row_fault record_no (fields_of row.now)) result }
 {
     if row.len() != 3 {
         return Err(DocketFault::FieldCount { place: record_no });
     }
-    if sheet.is_cut() {
+    if sheet_rows.is_cut() {
         check_name(row, 1, record_no)?;
         return check_name(row, 2, record_no);
     }
     let resident = name_in(name_texts, row, 1, record_no)?;
     let programme = name_in(name_texts, row, 2, record_no)?;
-    sheet.add(
+    sheet_rows.add(
         record_no,
         Mark::Matched {
             resident,
@@ -101,7 +101,7 @@ pub(crate) fn matched_row(
 
 /// Checks and keeps `U,resident`.
 pub(crate) fn unmatched_row(
-    sheet: &mut SheetRows,
+    sheet_rows: &mut SheetRows,
     name_texts: &mut Texts,
     row: &ByteRecord,
     record_no: u32,
@@ -109,18 +109,18 @@ pub(crate) fn unmatched_row(
     requires kind { kind_of (fields_of row.now) ≡ UNMATCHED }
     ensures texts { StartsWith name_texts.old name_texts.new }
     ensures kept { OnOk result ((rows : List Fields)
-        → record_no ≡ next_place rows → AreSheetRows name_texts.old sheet.old rows
-        → AreSheetRows name_texts.new sheet.new (rows ++ fields_of row.now ∷ [])) }
+        → record_no ≡ next_place rows → AreSheetRows name_texts.old sheet_rows.old rows
+        → AreSheetRows name_texts.new sheet_rows.new (rows ++ fields_of row.now ∷ [])) }
     ensures fault { Answers (unmatched_row_fault record_no (fields_of row.now)) result }
 {
     if row.len() != 2 {
         return Err(DocketFault::FieldCount { place: record_no });
     }
-    if sheet.is_cut() {
+    if sheet_rows.is_cut() {
         return check_name(row, 1, record_no);
     }
     let resident = name_in(name_texts, row, 1, record_no)?;
-    sheet.add(record_no, Mark::Unmatched { resident })?;
+    sheet_rows.add(record_no, Mark::Unmatched { resident })?;
     Ok(())
 }
 
@@ -139,7 +139,7 @@ fn counts_in(row: &ByteRecord, record_no: u32) -> Result<(u32, u32), DocketFault
 
 /// Checks and keeps `F,programme,filled,quota`.
 pub(crate) fn filled_row(
-    sheet: &mut SheetRows,
+    sheet_rows: &mut SheetRows,
     name_texts: &mut Texts,
     row: &ByteRecord,
     record_no: u32,
@@ -147,21 +147,21 @@ pub(crate) fn filled_row(
     requires kind { kind_of (fields_of row.now) ≡ FILLED }
     ensures texts { StartsWith name_texts.old name_texts.new }
     ensures kept { OnOk result ((rows : List Fields)
-        → record_no ≡ next_place rows → AreSheetRows name_texts.old sheet.old rows
-        → AreSheetRows name_texts.new sheet.new (rows ++ fields_of row.now ∷ [])) }
+        → record_no ≡ next_place rows → AreSheetRows name_texts.old sheet_rows.old rows
+        → AreSheetRows name_texts.new sheet_rows.new (rows ++ fields_of row.now ∷ [])) }
     ensures fault { Answers (filled_row_fault record_no (fields_of row.now)) result }
 {
     if row.len() != 4 {
         return Err(DocketFault::FieldCount { place: record_no });
     }
-    if sheet.is_cut() {
+    if sheet_rows.is_cut() {
         check_name(row, 1, record_no)?;
         counts_in(row, record_no)?;
         return Ok(());
     }
     let programme = name_in(name_texts, row, 1, record_no)?;
     let (filled, quota) = counts_in(row, record_no)?;
-    sheet.add(
+    sheet_rows.add(
         record_no,
         Mark::Filled {
             programme,

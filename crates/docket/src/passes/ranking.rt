@@ -320,7 +320,7 @@ fn rank(
 // The instance that the builder makes after this many records, and the lists if `keeps_lists` is set.
 fn finished(
     builder: InstanceBuilder,
-    records: u32,
+    record_count: u32,
     programme_lists: ProgrammeLists,
     keeps_lists: bool,
 ) -> Result<(Instance, Option<(WrittenLists, ProgrammeLists)>), DocketFault>
@@ -331,12 +331,15 @@ fn finished(
         → (keeps_lists ≡ true → programme_lists ≡ builder.programme_lists)
         → instance_and_lists.1 ≡ lists_if keeps_lists rows) }
     ensures fault { (rows : List Fields) → IsRanked builder rows rows
-        → records ≡ length rows → Answers (pairs_fault builder.limits rows) result }
+        → record_count ≡ length rows → Answers (pairs_fault builder.limits rows) result }
 {
     match builder.finish_with_lists() {
-        Ok((instance, lists)) if keeps_lists => Ok((instance, Some((lists, programme_lists)))),
+        Ok((instance, written_lists)) if keeps_lists => Ok((
+            instance,
+            Some((written_lists, programme_lists)),
+        )),
         Ok((instance, _)) => Ok((instance, None)),
-        Err(refused) => Err(model_fault(records, refused.fault)),
+        Err(refused) => Err(model_fault(record_count, refused.fault)),
     }
 }
 
@@ -356,7 +359,7 @@ fn no_lists(
 /// `keeps_lists` is set.
 pub(crate) fn instance_of(
     alloc: Global,
-    records: u32,
+    record_count: u32,
     lists: &Lists,
     programmes: &Members,
     residents: &Members,
@@ -365,15 +368,15 @@ pub(crate) fn instance_of(
 ) -> Result<(Instance, Option<(WrittenLists, ProgrammeLists)>), DocketFault>
     ensures instance { IfOk result (λ instance_and_lists. (name_texts : Fields) (rows : List Fields)
         → AreLists name_texts lists.now rows → AreKnown name_texts programmes.now residents.now rows
-        → IsRanked builder rows [] → records ≡ length rows
+        → IsRanked builder rows [] → record_count ≡ length rows
         → instance_and_lists.0 ≡ instance_from (draft_of rows)) }
     ensures lists { IfOk result (λ instance_and_lists. (name_texts : Fields) (rows : List Fields)
         → AreLists name_texts lists.now rows → AreKnown name_texts programmes.now residents.now rows
-        → IsRanked builder rows [] → records ≡ length rows
+        → IsRanked builder rows [] → record_count ≡ length rows
         → instance_and_lists.1 ≡ lists_if keeps_lists rows) }
     ensures fault { (name_texts : Fields) (rows : List Fields)
         → AreLists name_texts lists.now rows → AreKnown name_texts programmes.now residents.now rows
-        → IsRanked builder rows [] → records ≡ length rows → Answers (option_or
+        → IsRanked builder rows [] → record_count ≡ length rows → Answers (option_or
         (first_from (ranking_fault rows) [] rows) (pairs_fault builder.limits rows)) result }
 {
     let mut programme_lists = no_lists(alloc, programmes, keeps_lists)?;
@@ -385,5 +388,5 @@ pub(crate) fn instance_of(
         &mut builder,
         &mut programme_lists,
     )?;
-    finished(builder, records, programme_lists, keeps_lists)
+    finished(builder, record_count, programme_lists, keeps_lists)
 }

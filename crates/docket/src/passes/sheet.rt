@@ -315,7 +315,7 @@ impl Marks {
 /// The sheet of a docket that has one, from the rows that were kept of this many records.
 pub(crate) fn sheet_of(
     alloc: Global,
-    records: u32,
+    record_count: u32,
     rows: &SheetRows,
     programmes: &Members,
     residents: &Members,
@@ -325,18 +325,20 @@ pub(crate) fn sheet_of(
     ensures sheet { IfOk result (λ sheet. (name_texts : Fields) (all_rows : List Fields)
         → AreSheetRows name_texts rows.now all_rows
         → AreKnown name_texts programmes.now residents.now all_rows
-        → instance.now.quotas ≡ quotas_of all_rows → records ≡ length all_rows
+        → instance.now.quotas ≡ quotas_of all_rows → record_count ≡ length all_rows
         → sheet ≡ placement_of all_rows) }
     ensures fault { (name_texts : Fields) (all_rows : List Fields)
         → AreSheetRows name_texts rows.now all_rows
         → AreKnown name_texts programmes.now residents.now all_rows
         → instance.now.quotas ≡ quotas_of all_rows
-        → records ≡ length all_rows → Answers (placement_fault all_rows) result }
+        → record_count ≡ length all_rows → Answers (placement_fault all_rows) result }
 {
     let mut marks = Marks::new(alloc, programmes.len(), residents.len())?;
     marks.add_rows(rows.rows(), programmes, residents)?;
     if !marks.is_complete() {
-        return Err(DocketFault::BadSheet { place: records });
+        return Err(DocketFault::BadSheet {
+            place: record_count,
+        });
     }
     marks.check_filled(rows.rows(), programmes, instance)?;
     Ok(marks.sheet)

@@ -50,7 +50,7 @@ pub(crate) struct ListRow<'a> {
 #[derive(Drop)]
 pub(crate) struct Lists {
     rows: Vec<KeptRow>,
-    names: Vec<u32>,
+    name_numbers: Vec<u32>,
     // How many new texts these rows brought.
     new_names: usize,
 }
@@ -63,11 +63,11 @@ impl Model for Lists {
 
     ghost view = { λ lists.
         record {
-          entries = map (entry_at lists.names.items) lists.rows.items;
+          entries = map (entry_at lists.name_numbers.items) lists.rows.items;
           brought = lists.new_names;
         } };
 
-    ghost invariant = { λ lists. ArePartsOf lists.names.items lists.rows.items };
+    ghost invariant = { λ lists. ArePartsOf lists.name_numbers.items lists.rows.items };
 }
 
 // The count of new names, after the number of texts grew from `texts_before` to `texts_after`. Once there are too
@@ -165,8 +165,8 @@ fn add_names(
     ensures texts { StartsWith name_texts.old name_texts.new }
     ensures grown { length name_numbers.old.items ≤ length name_numbers.new.items }
 {
-    for i in 2..row.len() {
-        if let Some(text) = row.get(i) {
+    for field_index in 2..row.len() {
+        if let Some(text) = row.get(field_index) {
             if !add_name(name_numbers, new_names, name_texts, text)? {
                 return Ok(false);
             }
@@ -217,7 +217,7 @@ impl Lists {
     {
         Lists {
             rows: Vec::new(alloc),
-            names: Vec::new(alloc),
+            name_numbers: Vec::new(alloc),
             new_names: 0,
         }
     }
@@ -247,12 +247,12 @@ impl Lists {
         let Some(owner) = number_name(&mut new_names, name_texts, field(row, 1))? else {
             return Ok(None);
         };
-        let names_start = self.names.len();
-        if !add_names(&mut self.names, &mut new_names, name_texts, row)? {
+        let names_start = self.name_numbers.len();
+        if !add_names(&mut self.name_numbers, &mut new_names, name_texts, row)? {
             return Ok(None);
         }
         if !was_cut {
-            let names_end = self.names.len();
+            let names_end = self.name_numbers.len();
             push_row(
                 &mut self.rows,
                 record_no,
@@ -291,7 +291,7 @@ impl Lists {
             return Ok(None);
         };
         if !was_cut {
-            let names_end = self.names.len();
+            let names_end = self.name_numbers.len();
             push_row(
                 &mut self.rows,
                 record_no,
@@ -312,22 +312,22 @@ impl Lists {
         self.rows.len()
     }
 
-    /// Row `k`, from 0.
-    pub(crate) fn row(&self, k: usize) -> ListRow
-        requires { k < length self.now.entries }
-        ensures { slice_get self.now.entries k ≡ Some (record {
+    /// Row `row_index`, from 0.
+    pub(crate) fn row(&self, row_index: usize) -> ListRow
+        requires { row_index < length self.now.entries }
+        ensures { slice_get self.now.entries row_index ≡ Some (record {
           record_no = result.record_no;
           kind = result.kind;
           owner = result.owner;
           listed = result.listed_names.now;
         }) }
     {
-        let row = self.rows[k];
+        let row = self.rows[row_index];
         ListRow {
             record_no: row.record_no,
             kind: row.kind,
             owner: row.owner,
-            listed_names: &self.names[row.start as usize..row.end as usize],
+            listed_names: &self.name_numbers[row.start as usize..row.end as usize],
         }
     }
 }
