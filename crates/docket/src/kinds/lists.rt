@@ -27,8 +27,8 @@ pub(crate) fn list_row(
 ) -> Result<usize, DocketFault>
     requires kind { kind_of (fields_of row.now) ≡ list_letter side }
     ensures texts { StartsWith name_texts.old name_texts.new }
-    ensures owner { IfOk result (λ n.
-        slice_get name_texts.new n ≡ Some (field_of (fields_of row.now) 1)) }
+    ensures owner { IfOk result (λ number.
+        slice_get name_texts.new number ≡ Some (field_of (fields_of row.now) 1)) }
     ensures kept { OnOk result ((rows : List Fields)
         → record_no ≡ next_place rows → AreLists name_texts.old lists.old rows
         → AreLists name_texts.new lists.new (rows ++ fields_of row.now ∷ [])) }
