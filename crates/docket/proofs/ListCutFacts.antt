@@ -204,7 +204,7 @@ left_cut rows done (row ∷ rest) left sound is front unknown =
           entry = e;
           more = [];
           left_is = refl;
-          place = front.place ∙ s.place;
+          record_no = front.record_no ∙ s.record_no;
           shown = subst (λ (k : ListKind). ShowsRow rows row k e.owner e.listed) (sym front.kind)
               (row_cut rows done rest row s.entry.kind e.owner e.listed front.rest s.entry.listed is front.listed
               (subst (λ (o : List ℕ). ShowsRow rows row s.entry.kind o s.entry.listed) (sym front.owner) s.shown) one);
@@ -218,7 +218,7 @@ left_cut rows done (row ∷ rest) left sound is front unknown =
       entry = e;
       more = f ∷ kept;
       left_is = refl;
-      place = ap (λ (a : ListEntry). a.place) front.0 ∙ s.place;
+      record_no = ap (λ (a : ListEntry). a.record_no) front.0 ∙ s.record_no;
       shown = subst (λ (a : ListEntry). ShowsRow rows row a.kind a.owner a.listed) (sym front.0) s.shown;
       after = λ fine. go (f ∷ kept) front.1 (λ known. unknown (ap (λ (l : List ListEntry). list_all (is_among (members_of rows)) (names_in l)) (moved e s front.0) ∙ known));
     }

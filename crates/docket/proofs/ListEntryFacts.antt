@@ -62,7 +62,7 @@ sound_side before row kind none =
 pub record HasShown (rows : List Fields) (n : ℕ) (row : Fields) : Type 0 where
   pub entry : ListEntry
   pub is : entry_in n row ≡ entry ∷ []
-  pub place : entry.place ≡ n
+  pub record_no : entry.record_no ≡ n
   pub shown : ShowsRow rows row entry.kind entry.owner entry.listed
 
 whole_list : (others : List (List ℕ)) (row : Fields) → ShowList others row (drop 2 row)
@@ -79,13 +79,13 @@ has_shown rows done rest n row sound few is ranking = by (ranking_kind row ranki
     by (inl kind) = record {
       entry = list_entry n Programmes row;
       is = list_entry_in n n Programmes row kind refl;
-      place = refl;
+      record_no = refl;
       shown = (kind, refl, λ known. whole_list _ row);
     }
     by (inr (inl kind)) = record {
       entry = list_entry n Residents row;
       is = list_entry_in n n Residents row kind refl;
-      place = refl;
+      record_no = refl;
       shown = (kind, refl, whole_list _ row);
     }
     by (inr (inr kind)) =
@@ -94,6 +94,6 @@ has_shown rows done rest n row sound few is ranking = by (ranking_kind row ranki
         record {
           entry = gone_entry n there.side row;
           is = gone_entry_in n n there.side row kind there.is refl;
-          place = refl;
+          record_no = refl;
           shown = (kind, (side_is (field row 1) there.side there.is).0, refl, refl);
         }

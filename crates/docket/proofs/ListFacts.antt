@@ -52,7 +52,7 @@ named_grown texts more (e ∷ entries) s h =
     let owner : slice_index_or more e.owner [] ≡ slice_index_or texts e.owner [] = number_text texts more e.owner s here.0 in
     let listed = texts_kept texts more e.listed s here.1 in
     let tail = named_grown texts more entries s (All-tail (IsWithin texts) e entries h) in
-    λ i. record { place = e.place; kind = e.kind; owner = owner i; listed = listed i } ∷ tail i
+    λ i. record { record_no = e.record_no; kind = e.kind; owner = owner i; listed = listed i } ∷ tail i
 
 -- if n texts pass a test, at least n pass a wider test after texts were added
 pub count_grown : (p q : List ℕ → Bool) → ((t : List ℕ) → p t ≡ true → q t ≡ true) → (texts more : Fields) (n : ℕ) → StartsWith texts more → n ≤ count_by p texts → n ≤ count_by q more

@@ -23,7 +23,7 @@ pub record FirstLeft (rows done : List Fields) (row : Fields) (left : List ListE
   pub entry : ListEntry
   pub more : List ListEntry
   pub left_is : left ≡ entry ∷ more
-  pub place : entry.place ≡ length done + 1
+  pub record_no : entry.record_no ≡ length done + 1
   pub shown : ShowsRow rows row entry.kind entry.owner entry.listed
   pub after : first_from (ranking_fault rows) [] (done ++ row ∷ []) ≡ None → After more
 
@@ -83,7 +83,7 @@ pub record NextLeft (b : Draft) (rows : List Fields) (entry : ListEntry) (more :
   pub row : Fields
   pub rest : List Fields
   pub split : rows ≡ done ++ row ∷ rest
-  pub place : entry.place ≡ length done + 1
+  pub record_no : entry.record_no ≡ length done + 1
   pub shown : ShowsRow rows row entry.kind entry.owner entry.listed
   pub ranked : IsRanked b rows done
   pub none : first_from (ranking_fault rows) [] done ≡ None
@@ -102,13 +102,13 @@ next_left b rows done (row ∷ rest) entry more is ranked none h = by (is_rankin
         let first = h none in
         let same : entry ≡ first.entry = cc (first.left_is) in
         let others : more ≡ first.more = cc (first.left_is) in
-        let place = first.place in
+        let place = first.record_no in
         record {
           done = done;
           row = row;
           rest = rest;
           split = is;
-          place = ap (λ (e : ListEntry). e.place) same ∙ place;
+          record_no = ap (λ (e : ListEntry). e.record_no) same ∙ place;
           shown = subst (λ (e : ListEntry). ShowsRow rows row e.kind e.owner e.listed) (sym same) first.shown;
           ranked = ranked;
           none = none;

@@ -77,7 +77,7 @@ list_says texts rows k owner i names others owners members numbers own are d lt 
     }
 
 pub programme_says : (texts : Fields) (programmes residents : List ℕ) (builder : Draft) (rows : List Fields) (k place owner i : ℕ) (listed : List ℕ)
-    → IsNext texts programmes residents builder rows k (record { place = place; kind = Ranking Programmes; owner = owner; listed = listed }) → position (nat_eq owner) programmes ≡ Some i
+    → IsNext texts programmes residents builder rows k (record { record_no = place; kind = Ranking Programmes; owner = owner; listed = listed }) → position (nat_eq owner) programmes ≡ Some i
     → ListSays rows k (programmes_of rows) (residents_of rows) residents listed i
 programme_says texts programmes residents builder rows k place owner i listed h at =
     let known : is_declared (programmes_of rows) (slice_index_or texts owner []) ≡ true =
@@ -86,7 +86,7 @@ programme_says texts programmes residents builder rows k place owner i listed h 
     h.shown.1 (h.shown.2 known)
 
 pub resident_says : (texts : Fields) (programmes residents : List ℕ) (builder : Draft) (rows : List Fields) (k place owner i : ℕ) (listed : List ℕ)
-    → IsNext texts programmes residents builder rows k (record { place = place; kind = Ranking Residents; owner = owner; listed = listed }) → position (nat_eq owner) residents ≡ Some i
+    → IsNext texts programmes residents builder rows k (record { record_no = place; kind = Ranking Residents; owner = owner; listed = listed }) → position (nat_eq owner) residents ≡ Some i
     → ListSays rows k (residents_of rows) (programmes_of rows) programmes listed i
 resident_says texts programmes residents builder rows k place owner i listed h at =
     list_says texts rows k owner i (residents_of rows) (programmes_of rows) residents programmes listed h.known.residents_are h.known.programmes_are h.known.distinct h.within.0 h.within.1 at
@@ -95,15 +95,15 @@ resident_says texts programmes residents builder rows k place owner i listed h a
 -- if the owner's number in a P row's entry is no programme's, the row has the fault of an unknown
 -- name
 pub programme_unknown : (texts : Fields) (programmes residents : List ℕ) (builder : Draft) (rows : List Fields) (k place owner : ℕ) (listed : List ℕ)
-    → IsNext texts programmes residents builder rows k (record { place = place; kind = Ranking Programmes; owner = owner; listed = listed }) → position (nat_eq owner) programmes ≡ None
+    → IsNext texts programmes residents builder rows k (record { record_no = place; kind = Ranking Programmes; owner = owner; listed = listed }) → position (nat_eq owner) programmes ≡ None
     → ranking_fault rows (take k rows) (row_at rows k) ≡ Some (UnknownName place)
 programme_unknown texts programmes residents builder rows k place owner listed h none =
     let at : number_in (programmes_of rows) (field (row_at rows k) 1) ≡ None =
     ap (number_in (programmes_of rows)) (sym h.shown.1) ∙ sym (member_is texts programmes (programmes_of rows) owner h.known.programmes_are h.known.distinct h.within.0) ∙ none in
-    ranking_fault-unowned rows (take k rows) (row_at rows k) place h.shown.0 at (h.place ∙ place_at rows k h.there)
+    ranking_fault-unowned rows (take k rows) (row_at rows k) place h.shown.0 at (h.record_no ∙ place_at rows k h.there)
 
 pub resident_known : (texts : Fields) (programmes residents : List ℕ) (builder : Draft) (rows : List Fields) (k place owner : ℕ) (listed : List ℕ)
-    → IsNext texts programmes residents builder rows k (record { place = place; kind = Ranking Residents; owner = owner; listed = listed }) → position (nat_eq owner) residents ≡ None → ⊥
+    → IsNext texts programmes residents builder rows k (record { record_no = place; kind = Ranking Residents; owner = owner; listed = listed }) → position (nat_eq owner) residents ≡ None → ⊥
 resident_known texts programmes residents builder rows k place owner listed h none =
     resident_declared rows k h.there h.shown.0
     (ap (number_in (residents_of rows)) (sym h.shown.1) ∙ sym (member_is texts residents (residents_of rows) owner h.known.residents_are h.known.distinct h.within.0) ∙ none)
@@ -134,13 +134,13 @@ member_missing members numbers i lt none = list_all_at (is_member members) numbe
 
 -- the member whom a withdrawal names is the member whose number its entry has
 pub programme_named : (texts : Fields) (programmes residents : List ℕ) (builder : Draft) (rows : List Fields) (k place owner : ℕ)
-    → IsNext texts programmes residents builder rows k (record { place = place; kind = Withdrawal Programmes; owner = owner; listed = [] })
+    → IsNext texts programmes residents builder rows k (record { record_no = place; kind = Withdrawal Programmes; owner = owner; listed = [] })
     → number_in (programmes_of rows) (field (row_at rows k) 2) ≡ position (nat_eq owner) programmes
 programme_named texts programmes residents builder rows k place owner h =
     ap (number_in (programmes_of rows)) (sym h.shown.2) ∙ sym (member_is texts programmes (programmes_of rows) owner h.known.programmes_are h.known.distinct h.within.0)
 
 pub resident_named : (texts : Fields) (programmes residents : List ℕ) (builder : Draft) (rows : List Fields) (k place owner : ℕ)
-    → IsNext texts programmes residents builder rows k (record { place = place; kind = Withdrawal Residents; owner = owner; listed = [] })
+    → IsNext texts programmes residents builder rows k (record { record_no = place; kind = Withdrawal Residents; owner = owner; listed = [] })
     → number_in (residents_of rows) (field (row_at rows k) 2) ≡ position (nat_eq owner) residents
 resident_named texts programmes residents builder rows k place owner h =
     ap (number_in (residents_of rows)) (sym h.shown.2) ∙ sym (member_is texts residents (residents_of rows) owner h.known.residents_are h.known.distinct h.within.0)
@@ -151,23 +151,23 @@ on_ok (Err e) a f = tt
 
 -- the entry that the store returned is the next entry, if its parts are equal to the parts returned
 pub next_as : (texts : Fields) (programmes residents : List ℕ) (builder : Draft) (rows : List Fields) (k : ℕ) (entries : List KeptEntry) (j : ℕ) (entry : KeptEntry) (place owner : ℕ) (listed : List ℕ) (kind same : ListKind)
-    → slice_get entries j ≡ Some (record { place = place; kind = kind; owner = owner; listed = listed }) → kind ≡ same → slice_get entries j ≡ Some entry
-    → IsNext texts programmes residents builder rows k entry → IsNext texts programmes residents builder rows k (record { place = place; kind = same; owner = owner; listed = listed })
+    → slice_get entries j ≡ Some (record { record_no = place; kind = kind; owner = owner; listed = listed }) → kind ≡ same → slice_get entries j ≡ Some entry
+    → IsNext texts programmes residents builder rows k entry → IsNext texts programmes residents builder rows k (record { record_no = place; kind = same; owner = owner; listed = listed })
 next_as texts programmes residents builder rows k entries j entry place owner listed kind same given is at h =
-    let first : entry ≡ record { place = place; kind = kind; owner = owner; listed = listed } = same_Some entry _ (sym at ∙ given) in
-    let path : entry ≡ record { place = place; kind = same; owner = owner; listed = listed } = first ∙ (λ i. record { place = place; kind = is i; owner = owner; listed = listed }) in
+    let first : entry ≡ record { record_no = place; kind = kind; owner = owner; listed = listed } = same_Some entry _ (sym at ∙ given) in
+    let path : entry ≡ record { record_no = place; kind = same; owner = owner; listed = listed } = first ∙ (λ i. record { record_no = place; kind = is i; owner = owner; listed = listed }) in
     subst (λ (e : KeptEntry). IsNext texts programmes residents builder rows k e) path h
 
 -- the entry of a withdrawal has no listed numbers
 pub next_gone : (texts : Fields) (programmes residents : List ℕ) (builder : Draft) (rows : List Fields) (k place owner : ℕ) (listed : List ℕ) (side : Side)
-    → IsNext texts programmes residents builder rows k (record { place = place; kind = Withdrawal side; owner = owner; listed = listed })
-    → IsNext texts programmes residents builder rows k (record { place = place; kind = Withdrawal side; owner = owner; listed = [] })
+    → IsNext texts programmes residents builder rows k (record { record_no = place; kind = Withdrawal side; owner = owner; listed = listed })
+    → IsNext texts programmes residents builder rows k (record { record_no = place; kind = Withdrawal side; owner = owner; listed = [] })
 unfolding texts_at
 next_gone texts programmes residents builder rows k place owner listed side h = record {
   known = h.known;
   within = (h.within.0, All-nil (λ n. n < length texts));
   there = h.there;
-  place = h.place;
+  record_no = h.record_no;
   ranked = h.ranked;
   shown = (h.shown.0, h.shown.1, h.shown.2, refl);
 }

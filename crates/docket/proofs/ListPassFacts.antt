@@ -42,7 +42,7 @@ next_at texts programmes residents builder rows entry more known h =
         known = known;
         within = All-head (IsWithin texts) entry more h.within;
         there = a.there;
-        place = n.place;
+        record_no = n.record_no;
         ranked = rw a.before n.ranked;
         shown = rw a.here n.shown;
       };

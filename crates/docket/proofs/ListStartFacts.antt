@@ -33,7 +33,7 @@ left_whole rows done (row ∷ rest) sound few is =
           entry = s.entry;
           more = entries_from (length done + 1) rest;
           left_is = ap (λ (l : List ListEntry). l ++ entries_from (length done + 1) rest) s.is;
-          place = s.place;
+          record_no = s.record_no;
           shown = s.shown;
           after = λ fine. more;
         }

@@ -172,17 +172,17 @@ parts_kept names more (row ∷ rows) h =
     let part : take (row.end - row.start) (drop row.start (names ++ more)) ≡ take (row.end - row.start) (drop row.start names) =
     rw (drop-append-le row.start names more (omega (arith, up, end))) (take-append-le (row.end - row.start) (drop row.start names) more (omega (arith, up, end, size))) in
     let tail = parts_kept names more rows (All-tail (λ (row : KeptRow). (row.start ≤ row.end) × (row.end ≤ length names)) row rows h) in
-    λ i. record { place = row.place; kind = row.kind; owner = row.owner; listed = part i } ∷ tail i
+    λ i. record { record_no = row.record_no; kind = row.kind; owner = row.owner; listed = part i } ∷ tail i
 
 -- one more kept row has the part of the sequence that its owner and its names were given
 pub parts_push : (names added : List ℕ) (rows : List KeptRow) (place : ℕ) (kind : ListKind) (owner start end : ℕ) → ArePartsOf names rows → start ≡ length names → end ≡ length (names ++ added)
-    → map (entry_at (names ++ added)) (rows ++ record { place = place; kind = kind; owner = owner; start = start; end = end } ∷ [])
-    ≡ map (entry_at names) rows ++ record { place = place; kind = kind; owner = owner; listed = added } ∷ []
+    → map (entry_at (names ++ added)) (rows ++ record { record_no = place; kind = kind; owner = owner; start = start; end = end } ∷ [])
+    ≡ map (entry_at names) rows ++ record { record_no = place; kind = kind; owner = owner; listed = added } ∷ []
 parts_push names added rows place kind owner start end h first last =
     let size = length-append names added in
     let whole : take (end - start) (drop start (names ++ added)) ≡ added = rw (first, drop-append_seam names added) (take_all (end - length names) added (omega (arith, last, size))) in
-    map-append (entry_at (names ++ added)) rows (record { place = place; kind = kind; owner = owner; start = start; end = end } ∷ [])
-    ∙ (λ i. parts_kept names added rows h i ++ record { place = place; kind = kind; owner = owner; listed = whole i } ∷ [])
+    map-append (entry_at (names ++ added)) rows (record { record_no = place; kind = kind; owner = owner; start = start; end = end } ∷ [])
+    ∙ (λ i. parts_kept names added rows h i ++ record { record_no = place; kind = kind; owner = owner; listed = whole i } ∷ [])
 
 -- a number of the texts stands for the same text after texts were added
 pub number_text : (known more : List (List ℕ)) (n : ℕ) → StartsWith known more → n < length known → slice_index_or more n [] ≡ slice_index_or known n []
@@ -200,7 +200,7 @@ pub entry_added : (texts known more : List (List ℕ)) (names all : List ℕ) (r
     → ArePartsOf names rows → IsJoined texts known entry.owner → slice_get known owner ≡ Some entry.owner → count + length texts ≡ brought + length known
     → AreWalked known names count more all now entry.listed → start ≡ length names → end ≡ length all
     → HasEntry texts more (record { entries = map (entry_at names) rows; brought = brought })
-    (record { entries = map (entry_at all) (rows ++ record { place = entry.place; kind = entry.kind; owner = owner; start = start; end = end } ∷ []); brought = now }) entry
+    (record { entries = map (entry_at all) (rows ++ record { record_no = entry.record_no; kind = entry.kind; owner = owner; start = start; end = end } ∷ []); brought = now }) entry
 entry_added texts known more names all rows brought count now entry owner start end parts joined at sum walked first last =
     let grown = have_starts known more (texts_at more walked.added) walked.joined in
     let sum2 = walked.count in
@@ -209,12 +209,12 @@ entry_added texts known more names all rows brought count now entry owner start 
     let text : slice_index_or more owner [] ≡ entry.owner = number_text known more owner grown there ∙ get_or_from_slice_get known owner entry.owner [] at in
     let all_are = walked.all_are in
     record {
-      kept = record { place = entry.place; kind = entry.kind; owner = owner; listed = walked.added };
-      entries = rw all_are (parts_push names walked.added rows entry.place entry.kind owner start end parts first (last ∙ ap length all_are));
+      kept = record { record_no = entry.record_no; kind = entry.kind; owner = owner; listed = walked.added };
+      entries = rw all_are (parts_push names walked.added rows entry.record_no entry.kind owner start end parts first (last ∙ ap length all_are));
       within = (omega (arith, there, size), walked.within);
-      short = record { place = refl; kind = refl; owner = text; rest = walked.rest; listed = walked.names_are };
+      short = record { record_no = refl; kind = refl; owner = text; rest = walked.rest; listed = walked.names_are };
       whole = λ few. let none = walked.whole few in let listed = sym (walked.names_are ∙ ap (λ (l : List (List ℕ)). texts_at more walked.added ++ l) none ∙ append-nil (texts_at more walked.added)) in
-          λ i. record { place = entry.place; kind = entry.kind; owner = text i; listed = listed i };
+          λ i. record { record_no = entry.record_no; kind = entry.kind; owner = text i; listed = listed i };
       joined = rw text (have_both texts known more (entry.owner ∷ []) (texts_at more walked.added) (have_more texts texts known [] entry.owner (have_none texts []) joined) walked.joined);
       count = omega (arith, sum, sum2);
     }

@@ -30,7 +30,7 @@ use Rattle.docket.proofs.WithdrawalFacts.{withdrawn_of-none}
 
 -- what every later pass relies on: the members have the numbers of the names that the records
 -- declare
-pub known : (r : Reading) (rows : List Fields) → IsDistinct bytes_eq r.texts → IsPassed r rows → AreKnown r.texts r.declared.programmes r.declared.residents rows
+pub known : (r : Reading) (rows : List Fields) → IsDistinct bytes_eq r.name_texts → IsPassed r rows → AreKnown r.name_texts r.declared.programmes r.declared.residents rows
 known r rows distinct p = record {
   distinct = distinct;
   programmes_are = p.reading_is.declared.programmes;
@@ -55,8 +55,8 @@ pub sheet_noted : (r : Reading) (rows : List Fields) → IsPassed r rows
 unfolding has_sheet
 sheet_noted r rows p =
     let h = p.reading_is.declared in
-    let programmes : length r.declared.programmes ≡ length (programmes_of rows) = names_length r.texts r.declared.programmes (programmes_of rows) h.programmes in
-    let residents : length r.declared.residents ≡ length (residents_of rows) = names_length r.texts r.declared.residents (residents_of rows) h.residents in
+    let programmes : length r.declared.programmes ≡ length (programmes_of rows) = names_length r.name_texts r.declared.programmes (programmes_of rows) h.programmes in
+    let residents : length r.declared.residents ≡ length (residents_of rows) = names_length r.name_texts r.declared.residents (residents_of rows) h.residents in
     rw (h.sheet_rows, programmes, residents, no_members rows) refl
 
 -- the instance's quotas are those of the records
@@ -66,7 +66,7 @@ quotas_made inst rows is = ap (λ (i : Instance). i.quotas) is
 -- there are as many quotas as programmes
 pub quotas_each : (r : Reading) (inst : Instance) (rows : List Fields) → IsPassed r rows → inst ≡ instance_of (draft_of rows) → length inst.quotas ≡ length r.declared.programmes
 quotas_each r inst rows p is =
-    ap length (quotas_made inst rows is) ∙ length-quotas_of rows ∙ sym (names_length r.texts r.declared.programmes (programmes_of rows) p.reading_is.declared.programmes)
+    ap length (quotas_made inst rows is) ∙ length-quotas_of rows ∙ sym (names_length r.name_texts r.declared.programmes (programmes_of rows) p.reading_is.declared.programmes)
 
 -- if no pass has a fault, the whole call returns the docket, and its lists if they are asked for
 pub all_read : (lim : Limits) (bytes : Option (List ℕ)) (keeps : Bool) (r : Reading) (d : Contents) (w : Option KeptLists)

@@ -103,11 +103,11 @@ unmarked_unmatched name (r ∷ done) e = by (is_row_of MATCHED name r) (is_row_o
 
 -- the mark at place i is set exactly if an M or U row with the name of resident i was read
 pub marked_at : (marks : Marks) (rows done : List Fields) (name : List ℕ) (i : ℕ) (d : Bool) → IsMarked marks rows done → number_in (residents_of rows) name ≡ Some i
-    → get_or marks.marked.items i d ≡ list_any (is_mark_of name) done
+    → get_or marks.marked_residents.items i d ≡ list_any (is_mark_of name) done
 marked_at marks rows done name i d h at = rw h.marked (at_number (λ (n : List ℕ). list_any (is_mark_of n) done) (residents_of rows) name i d at)
 
 pub filled_at : (marks : Marks) (rows done : List Fields) (name : List ℕ) (i : ℕ) (d : Bool) → IsMarked marks rows done → number_in (programmes_of rows) name ≡ Some i
-    → get_or marks.filled.items i d ≡ list_any (is_row_of FILLED name) done
+    → get_or marks.filled_programmes.items i d ≡ list_any (is_row_of FILLED name) done
 filled_at marks rows done name i d h at = rw h.filled (at_number (λ (n : List ℕ). list_any (is_row_of FILLED n) done) (programmes_of rows) name i d at)
 
 pub counts_at : (marks : Marks) (rows done : List Fields) (name : List ℕ) (i d : ℕ) → IsMarked marks rows done → number_in (programmes_of rows) name ≡ Some i
@@ -154,12 +154,12 @@ flags_more p names done row i name flags d at here others h = rw h (sym (any_at 
 pub marks_matched : (m e : Marks) (rows done : List Fields) (row : Fields) (i p : ℕ) → distinct (programmes_of rows) ≡ true → distinct (residents_of rows) ≡ true
     → kind_of row ≡ MATCHED → number_in (residents_of rows) (field row 1) ≡ Some i → number_in (programmes_of rows) (field row 2) ≡ Some p
     → list_any (is_mark_of (field row 1)) done ≡ false → IsMarked m rows done
-    → e.sheet ≡ slice_set m.sheet i (Some p) → e.marked.items ≡ slice_set m.marked.items i true → e.filled.items ≡ m.filled.items
+    → e.sheet ≡ slice_set m.sheet i (Some p) → e.marked_residents.items ≡ slice_set m.marked_residents.items i true → e.filled_programmes.items ≡ m.filled_programmes.items
     → e.matched_counts.items ≡ slice_set m.matched_counts.items p (count_by (is_matched_with (field row 2)) done + 1) → IsMarked e rows (done ++ row ∷ [])
 marks_matched m e rows done row i p dp dr kind at to free h es em ef ec = record {
   sheet = es ∙ ap (λ (l : List (Option ℕ)). slice_set l i (Some p)) h.sheet
       ∙ sym (placed_at (programmes_of rows) (residents_of rows) done row i p dr at kind to (unmarked_unmatched (field row 1) done free));
-  marked = em ∙ flags_more is_mark_of (residents_of rows) done row i (field row 1) m.marked.items dr at
+  marked = em ∙ flags_more is_mark_of (residents_of rows) done row i (field row 1) m.marked_residents.items dr at
       (rw (kind, bytes_eq-same (field row 1)) refl) (λ x no. rw (kind, bytes_eq-swap (field row 1) x no) refl) h.marked;
   filled = ef ∙ h.filled ∙ flags_kept (is_row_of FILLED) (programmes_of rows) done row (λ x. rw kind refl);
   counts = ec ∙ ap (λ (l : List ℕ). slice_set l p (count_by (is_matched_with (field row 2)) done + 1)) h.counts
@@ -169,10 +169,10 @@ marks_matched m e rows done row i p dp dr kind at to free h es em ef ec = record
 
 pub marks_unmatched : (m e : Marks) (rows done : List Fields) (row : Fields) (i : ℕ) → distinct (residents_of rows) ≡ true
     → kind_of row ≡ UNMATCHED → number_in (residents_of rows) (field row 1) ≡ Some i → IsMarked m rows done
-    → e.sheet ≡ m.sheet → e.marked.items ≡ slice_set m.marked.items i true → e.filled.items ≡ m.filled.items → e.matched_counts.items ≡ m.matched_counts.items → IsMarked e rows (done ++ row ∷ [])
+    → e.sheet ≡ m.sheet → e.marked_residents.items ≡ slice_set m.marked_residents.items i true → e.filled_programmes.items ≡ m.filled_programmes.items → e.matched_counts.items ≡ m.matched_counts.items → IsMarked e rows (done ++ row ∷ [])
 marks_unmatched m e rows done row i dr kind at h es em ef ec = record {
   sheet = es ∙ h.sheet ∙ placed_kept rows done row (rw kind refl);
-  marked = em ∙ flags_more is_mark_of (residents_of rows) done row i (field row 1) m.marked.items dr at
+  marked = em ∙ flags_more is_mark_of (residents_of rows) done row i (field row 1) m.marked_residents.items dr at
       (rw (kind, bytes_eq-same (field row 1)) refl) (λ x no. rw (kind, bytes_eq-swap (field row 1) x no) refl) h.marked;
   filled = ef ∙ h.filled ∙ flags_kept (is_row_of FILLED) (programmes_of rows) done row (λ x. rw kind refl);
   counts = ec ∙ h.counts ∙ counts_kept is_matched_with (programmes_of rows) done row (λ x. rw kind refl);
@@ -180,11 +180,11 @@ marks_unmatched m e rows done row i dr kind at h es em ef ec = record {
 
 pub marks_filled : (m e : Marks) (rows done : List Fields) (row : Fields) (i : ℕ) → distinct (programmes_of rows) ≡ true
     → kind_of row ≡ FILLED → number_in (programmes_of rows) (field row 1) ≡ Some i → IsMarked m rows done
-    → e.sheet ≡ m.sheet → e.marked.items ≡ m.marked.items → e.filled.items ≡ slice_set m.filled.items i true → e.matched_counts.items ≡ m.matched_counts.items → IsMarked e rows (done ++ row ∷ [])
+    → e.sheet ≡ m.sheet → e.marked_residents.items ≡ m.marked_residents.items → e.filled_programmes.items ≡ slice_set m.filled_programmes.items i true → e.matched_counts.items ≡ m.matched_counts.items → IsMarked e rows (done ++ row ∷ [])
 marks_filled m e rows done row i dp kind at h es em ef ec = record {
   sheet = es ∙ h.sheet ∙ placed_kept rows done row (rw kind refl);
   marked = em ∙ h.marked ∙ flags_kept is_mark_of (residents_of rows) done row (λ x. rw kind refl);
-  filled = ef ∙ flags_more (is_row_of FILLED) (programmes_of rows) done row i (field row 1) m.filled.items dp at
+  filled = ef ∙ flags_more (is_row_of FILLED) (programmes_of rows) done row i (field row 1) m.filled_programmes.items dp at
       (rw (kind, bytes_eq-same (field row 1)) refl) (λ x no. rw (kind, bytes_eq-swap (field row 1) x no) refl) h.filled;
   counts = ec ∙ h.counts ∙ counts_kept is_matched_with (programmes_of rows) done row (λ x. rw kind refl);
 }
@@ -209,7 +209,7 @@ list_all-map f (n ∷ names) = ap (λ b. f n && b) (list_all-map f names)
 
 -- a sheet is incomplete exactly if some mark of a resident or of a programme isn't set
 pub missing_is : (m : Marks) (rows : List Fields) (n : ℕ) → IsMarked m rows rows → n ≡ length rows
-    → missing_fault rows ≡ unless (list_all (λ flag. flag) m.marked.items && list_all (λ flag. flag) m.filled.items) (BadSheet n)
+    → missing_fault rows ≡ unless (list_all (λ flag. flag) m.marked_residents.items && list_all (λ flag. flag) m.filled_programmes.items) (BadSheet n)
 unfolding missing_fault
 missing_is m rows n h place =
     rw (h.marked, h.filled, list_all-map (λ name. list_any (is_mark_of name) rows) (residents_of rows), list_all-map (λ name. list_any (is_row_of FILLED name) rows) (programmes_of rows), place) refl

@@ -32,14 +32,14 @@ kept_grown : (texts more : Fields) (n : ℕ) (kept : List SheetRow) (rows : List
 kept_grown texts more n kept [] s h = h
 kept_grown texts more n [] (row ∷ rows) s h = (h.0, kept_grown texts more (n + 1) [] rows s h.1)
 kept_grown texts more n (k ∷ kept) (row ∷ rows) s (inl h) =
-    inl (record { place = h.0.place; says = says_kept texts more k.mark row s h.0.says }, kept_grown texts more (n + 1) kept rows s h.1)
+    inl (record { record_no = h.0.record_no; says = says_kept texts more k.mark row s h.0.says }, kept_grown texts more (n + 1) kept rows s h.1)
 kept_grown texts more n (k ∷ kept) (row ∷ rows) s (inr h) = inr (h.0, kept_grown texts more (n + 1) (k ∷ kept) rows s h.1)
 
 -- the kept rows are right after one more record, whose row is added if the record belongs to a
 -- sheet
 kept_push : (texts : Fields) (n : ℕ) (kept : List SheetRow) (rows : List Fields) (k : SheetRow) (row : Fields) → AreKeptFrom texts n kept rows
-    → k.place ≡ n + length rows → MarkSays texts k.mark row → AreKeptFrom texts n (kept ++ k ∷ []) (rows ++ row ∷ [])
-kept_push texts n [] [] k row h place says = inl (record { place = place ∙ omega arith; says = says }, refl)
+    → k.record_no ≡ n + length rows → MarkSays texts k.mark row → AreKeptFrom texts n (kept ++ k ∷ []) (rows ++ row ∷ [])
+kept_push texts n [] [] k row h place says = inl (record { record_no = place ∙ omega arith; says = says }, refl)
 kept_push texts n (x ∷ kept) [] k row h place says = absurd (cc h)
 kept_push texts n [] (r ∷ rows) k row h place says = inr (h.0, kept_push texts (n + 1) [] rows k row h.1 (omega (arith, place)) says)
 kept_push texts n (x ∷ kept) (r ∷ rows) k row (inl h) place says = inl (h.0, kept_push texts (n + 1) kept rows k row h.1 (omega (arith, place)) says)
@@ -72,7 +72,7 @@ all_front texts sheet rows h le = h.rows_are ∙ ap (λ r. h.front ++ r) (h.whol
 
 -- the kept rows are right if a record's row is added while no more rows are kept than there can be
 -- members
-pub sheet_more : (texts : Fields) (sheet : List SheetRow) (rows : List Fields) (k : SheetRow) (row : Fields) → length sheet ≤ MOST_NAMES → k.place ≡ next_place rows
+pub sheet_more : (texts : Fields) (sheet : List SheetRow) (rows : List Fields) (k : SheetRow) (row : Fields) → length sheet ≤ MOST_NAMES → k.record_no ≡ next_place rows
     → MarkSays texts k.mark row → AreSheetRows texts sheet rows → AreSheetRows texts (sheet ++ k ∷ []) (rows ++ row ∷ [])
 sheet_more texts sheet rows k row le place says h =
     let same = all_front texts sheet rows h le in

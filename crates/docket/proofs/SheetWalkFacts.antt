@@ -115,12 +115,12 @@ right_passes all done row e h = first_from-push (filled_fault all) done row h (f
 
 -- the record of the next kept row stands among all records
 pub stands : (texts : Fields) (programmes residents : List ℕ) (kept : List SheetRow) (all : List Fields) (h : AreSheetRows texts kept all) (k : SheetRow) (left : List SheetRow)
-    (P : List Fields → Type 0) (n : IsNext texts h.front k left P) → AreKnown texts programmes residents all → StandsAfter texts programmes residents all n.before k.place k.mark n.row
+    (P : List Fields → Type 0) (n : IsNext texts h.front k left P) → AreKnown texts programmes residents all → StandsAfter texts programmes residents all n.before k.record_no k.mark n.row
 stands texts programmes residents kept all h k left P n known = record {
   known = known;
   rest = n.rest ++ h.rest;
   all_are = h.rows_are ∙ ap (λ l. l ++ h.rest) n.front_are ∙ append_assoc n.before (n.row ∷ n.rest) h.rest;
-  place_is = n.kept_is.place;
+  place_is = n.kept_is.record_no;
   says = n.kept_is.says;
 }
 

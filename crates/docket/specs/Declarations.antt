@@ -44,8 +44,8 @@ pub record IsDeclared (d : Declarations) (texts : Fields) (rows : List Fields) :
   pub resident_lists : d.builder.resident_lists ≡ map (λ name. None) (residents_of rows)
   pub programmes : AreNames texts d.programmes (programmes_of rows)
   pub residents : AreNames texts d.residents (residents_of rows)
-  pub ranked : AreNoted texts d.ranked (names_of PROGRAMME_LIST rows)
-  pub listed : d.listed ≡ all_listed rows
+  pub ranked : AreNoted texts d.ranked_programmes (names_of PROGRAMME_LIST rows)
+  pub listed : d.listed_count ≡ all_listed rows
   pub capacity : d.capacity ≡ capacity_in rows
   pub no_events : d.capacity ≡ None → list_any (is_kind EVENT) rows ≡ false
   pub by_worker : AreByWorker d.workers d.event_workers.items rows

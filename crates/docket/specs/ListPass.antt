@@ -44,6 +44,6 @@ pub record IsNext (texts : Fields) (programmes residents : List ℕ) (builder : 
   pub known : AreKnown texts programmes residents rows
   pub within : IsWithin texts entry
   pub there : k < length rows
-  pub place : entry.place ≡ k + 1
+  pub record_no : entry.record_no ≡ k + 1
   pub ranked : IsRanked builder rows (take k rows)
   pub shown : ShowsRow rows (row_at rows k) entry.kind (slice_index_or texts entry.owner []) (texts_at texts entry.listed)

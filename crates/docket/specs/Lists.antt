@@ -25,17 +25,17 @@ is_ranking_row row = is_kind PROGRAMME_LIST row || is_kind RESIDENT_LIST row || 
 -- A rank list or a withdrawal: the number of its record, its kind, the name of the list's owner or of the member
 -- withdrawn, and the names on the list.
 pub record ListEntry : Type 0 where
-  pub place : ℕ
+  pub record_no : ℕ
   pub kind : ListKind
   pub owner : List ℕ
   pub listed : List (List ℕ)
 
 -- the entry of a rank list of this side in record n; `gone_entry` is that of a withdrawal
 abbrev pub list_entry : ℕ → Side → Fields → ListEntry
-list_entry n side row = record { place = n; kind = Ranking side; owner = field row 1; listed = drop 2 row }
+list_entry n side row = record { record_no = n; kind = Ranking side; owner = field row 1; listed = drop 2 row }
 
 abbrev pub gone_entry : ℕ → Side → Fields → ListEntry
-gone_entry n side row = record { place = n; kind = Withdrawal side; owner = field row 2; listed = [] }
+gone_entry n side row = record { record_no = n; kind = Withdrawal side; owner = field row 2; listed = [] }
 
 -- a list of the entry of record n alone; an empty list if the record is neither a rank list nor a withdrawal
 unfoldable pub entry_in : ℕ → Fields → List ListEntry
@@ -55,14 +55,14 @@ entries_of rows = entries_from 0 rows
 
 -- an entry whose names are kept as numbers of texts
 pub record KeptEntry : Type 0 where
-  pub place : ℕ
+  pub record_no : ℕ
   pub kind : ListKind
   pub owner : ℕ
   pub listed : List ℕ
 
 -- the entry with the texts themselves in place of their numbers
 abbrev pub named : Fields → KeptEntry → ListEntry
-named texts e = record { place = e.place; kind = e.kind; owner = slice_index_or texts e.owner []; listed = texts_at texts e.listed }
+named texts e = record { record_no = e.record_no; kind = e.kind; owner = slice_index_or texts e.owner []; listed = texts_at texts e.listed }
 
 -- the kept entries, and how many of their names were new texts, which no earlier record had
 pub record KeptLists : Type 0 where
@@ -72,7 +72,7 @@ pub record KeptLists : Type 0 where
 -- the entry of a stored row, whose names are a part of one long sequence; `ArePartsOf` says that each row's part lies
 -- within the sequence
 abbrev pub entry_at : List ℕ → KeptRow → KeptEntry
-entry_at names row = record { place = row.place; kind = row.kind; owner = row.owner; listed = take (row.end - row.start) (drop row.start names) }
+entry_at names row = record { record_no = row.record_no; kind = row.kind; owner = row.owner; listed = take (row.end - row.start) (drop row.start names) }
 
 abbrev pub ArePartsOf : List ℕ → List KeptRow → Type 0
 ArePartsOf names rows = All (λ row. (row.start ≤ row.end) × (row.end ≤ length names)) rows
@@ -83,7 +83,7 @@ IsWithin texts e = (e.owner < length texts) × AreNumbersOf texts e.listed
 
 -- the short entry is the whole entry, or lacks some of the last names of the whole entry's list
 pub record IsCutFrom (whole short : ListEntry) : Type 0 where
-  pub place : short.place ≡ whole.place
+  pub record_no : short.record_no ≡ whole.record_no
   pub kind : short.kind ≡ whole.kind
   pub owner : short.owner ≡ whole.owner
   pub rest : List (List ℕ)

@@ -11,18 +11,18 @@ use Rattle.docket.specs.declared.reading.Reading.{Reading}
 -- what later passes need
 pub record IsReading (reading : Reading) (rows : List Fields) : Type 0 where
   pub records : reading.records ≡ length rows
-  pub declared : IsDeclared reading.declared reading.texts rows
-  pub lists : AreLists reading.texts reading.lists rows
-  pub sheet : AreSheetRows reading.texts reading.sheet rows
-  pub events : AreEvents reading.texts reading.events rows
+  pub declared : IsDeclared reading.declared reading.name_texts rows
+  pub lists : AreLists reading.name_texts reading.lists rows
+  pub sheet : AreSheetRows reading.name_texts reading.sheet rows
+  pub events : AreEvents reading.name_texts reading.events rows
 
 -- the reading keeps what these records declare and what later passes need, but may count another
 -- number of records
 pub record AreStored (reading : Reading) (rows : List Fields) : Type 0 where
-  pub declared : IsDeclared reading.declared reading.texts rows
-  pub lists : AreLists reading.texts reading.lists rows
-  pub sheet : AreSheetRows reading.texts reading.sheet rows
-  pub events : AreEvents reading.texts reading.events rows
+  pub declared : IsDeclared reading.declared reading.name_texts rows
+  pub lists : AreLists reading.name_texts reading.lists rows
+  pub sheet : AreSheetRows reading.name_texts reading.sheet rows
+  pub events : AreEvents reading.name_texts reading.events rows
 
 -- what the next record declares and what later passes need of it is kept; the record is not counted
 -- yet

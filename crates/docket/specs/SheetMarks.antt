@@ -20,22 +20,22 @@ placed_in programmes done resident = option_and_then (λ row. number_in programm
 -- row, which programmes have an F row, and how many M rows name each programme.
 pub record IsMarked (marks : Marks) (rows done : List Fields) : Type 0 where
   pub sheet : marks.sheet ≡ map (placed_in (programmes_of rows) done) (residents_of rows)
-  pub marked : marks.marked.items ≡ map (λ name. list_any (is_mark_of name) done) (residents_of rows)
-  pub filled : marks.filled.items ≡ map (λ name. list_any (is_row_of FILLED name) done) (programmes_of rows)
+  pub marked : marks.marked_residents.items ≡ map (λ name. list_any (is_mark_of name) done) (residents_of rows)
+  pub filled : marks.filled_programmes.items ≡ map (λ name. list_any (is_row_of FILLED name) done) (programmes_of rows)
   pub counts : marks.matched_counts.items ≡ map (λ name. count_by (is_matched_with name) done) (programmes_of rows)
 
 -- the marks for this many programmes and residents before any row was entered into them
 pub record IsBlank (marks : Marks) (programmes residents : ℕ) : Type 0 where
   pub sheet : marks.sheet ≡ replicate residents None
-  pub marked : marks.marked.items ≡ replicate residents false
-  pub filled : marks.filled.items ≡ replicate programmes false
+  pub marked : marks.marked_residents.items ≡ replicate residents false
+  pub filled : marks.filled_programmes.items ≡ replicate programmes false
   pub counts : marks.matched_counts.items ≡ replicate programmes 0
 
 -- the marks have one entry for each of this many programmes and residents
 pub record IsSized (marks : Marks) (programmes residents : ℕ) : Type 0 where
   pub sheet : length marks.sheet ≡ residents
-  pub marked : length marks.marked.items ≡ residents
-  pub filled : length marks.filled.items ≡ programmes
+  pub marked : length marks.marked_residents.items ≡ residents
+  pub filled : length marks.filled_programmes.items ≡ programmes
   pub counts : length marks.matched_counts.items ≡ programmes
 
 -- in the list of all records this record follows the records in `before`; `place` is its number, and

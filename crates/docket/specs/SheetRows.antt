@@ -22,7 +22,7 @@ MarkSays texts (Filled programme filled quota) row =
 
 -- the kept row has record n's number, and says what the record says
 pub record IsKeptOf (texts : Fields) (n : ℕ) (kept : SheetRow) (row : Fields) : Type 0 where
-  pub place : kept.place ≡ n
+  pub record_no : kept.record_no ≡ n
   pub says : MarkSays texts kept.mark row
 
 -- one row is kept for each record of a sheet, and none for any other record; the first of these records has number n

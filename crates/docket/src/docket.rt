@@ -24,7 +24,7 @@ impl Model for ByWorker {
 
     ghost Value = { ByWorkerParts };
 
-    ghost view = { λ b. record { workers = b.workers; who = b.who.items } };
+    ghost view = { λ by_worker. record { workers = by_worker.workers; who = by_worker.who.items } };
 }
 
 /// The journal of an exchange: the capacity of its mailboxes, and its events in order. A journal by worker also says
@@ -44,7 +44,8 @@ impl Model for Journal {
 
     ghost Value = { JournalParts };
 
-    ghost view = { λ j. record { capacity = j.capacity; events = j.events.items; by = j.by } };
+    ghost view = { λ journal.
+        record { capacity = journal.capacity; events = journal.events.items; by = journal.by } };
 }
 
 /// The contents of a docket.
@@ -61,21 +62,21 @@ impl Model for Docket {
 
     ghost Value = { Contents };
 
-    ghost view = { λ d. record {
-      programmes = d.names.programmes;
-      residents = d.names.residents;
-      instance = d.instance;
-      sheet = d.sheet;
-      journal = d.journal;
+    ghost view = { λ docket. record {
+      programmes = docket.names.programmes;
+      residents = docket.names.residents;
+      instance = docket.instance;
+      sheet = docket.sheet;
+      journal = docket.journal;
     } };
 
-    ghost invariant = { λ d.
+    ghost invariant = { λ docket.
         IsWhole (record {
-          programmes = d.names.programmes;
-          residents = d.names.residents;
-          instance = d.instance;
-          sheet = d.sheet;
-          journal = d.journal;
+          programmes = docket.names.programmes;
+          residents = docket.names.residents;
+          instance = docket.instance;
+          sheet = docket.sheet;
+          journal = docket.journal;
         }) };
 }
 

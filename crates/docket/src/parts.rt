@@ -28,8 +28,8 @@ fn read_file(
     reading: &mut Reading,
 ) -> Result<(), FileFault>
     requires within { reading.old.records ≤ most_records_in reading.old.declared.builder.limits }
-    requires workers { IfSome reading.old.declared.workers (λ n. n ≤ 8) }
-    ensures workers { OnOk result (IfSome reading.new.declared.workers (λ n. n ≤ 8)) }
+    requires workers { IfSome reading.old.declared.workers (λ count. count ≤ 8) }
+    ensures workers { OnOk result (IfSome reading.new.declared.workers (λ count. count ≤ 8)) }
     ensures passed { OnOk result ((kept_rows : List Fields) → IsPassed reading.old kept_rows
         → GoesOn (Some file) kept_rows (Some (rows_of bytes.now)) reading.new) }
     ensures limits { OnOk result
@@ -54,7 +54,7 @@ fn read_three(
     reading: &mut Reading,
 ) -> Result<Ends, FileFault>
     requires empty { IsReading reading.old [] }
-    requires workers { IfSome reading.old.declared.workers (λ n. n ≤ 8) }
+    requires workers { IfSome reading.old.declared.workers (λ count. count ≤ 8) }
     ensures own { OnOk result (files_fault
         reading.old.declared.builder.limits docket.now sheet.now journal.now ≡ None) }
     ensures passed { OnOk result
@@ -147,9 +147,9 @@ pub fn read_parts_with_lists<H: RandomSource>(
     ensures fault { IfErr result
         (Tells (fault_of_files limits docket.now sheet.now journal.now)) }
 {
-    let (docket, lists) = parts_as(rt, alloc, limits, docket, sheet, journal, true)?;
-    let Some((lists, programme_lists)) = lists else {
+    let (docket, lists_read) = parts_as(rt, alloc, limits, docket, sheet, journal, true)?;
+    let Some((written_lists, programme_lists)) = lists_read else {
         unreachable!("the lists are kept");
     };
-    Ok((docket, lists, programme_lists))
+    Ok((docket, written_lists, programme_lists))
 }

@@ -18,15 +18,15 @@ impl Model for ProgrammeLists {
 
     ghost Value = { List (Option (List ℕ)) };
 
-    ghost view = { λ a. map items_of a.lists.items };
+    ghost view = { λ programme_lists. map items_of programme_lists.lists.items };
 }
 
-// Puts a list at index `place`, if there is such an index.
-fn put(lists: &mut Vec<Option<Vec<ResidentNo>>>, place: usize, list: Vec<ResidentNo>)
+// Puts a list at index `programme_index`, if there is such an index.
+fn put(lists: &mut Vec<Option<Vec<ResidentNo>>>, programme_index: usize, list: Vec<ResidentNo>)
     ensures { map items_of lists.new.items
-        ≡ slice_set (map items_of lists.old.items) place (Some list.items) }
+        ≡ slice_set (map items_of lists.old.items) programme_index (Some list.items) }
 {
-    if let Some(slot) = lists.get_mut(place) {
+    if let Some(slot) = lists.get_mut(programme_index) {
         *slot = Some(list);
     }
 }
@@ -52,9 +52,13 @@ impl ProgrammeLists {
     ) -> Result<(), AllocError>
         ensures { OnOk result (self.new ≡ slice_set self.old programme (Some list.now)) }
     {
-        let place = programme.0 as usize;
-        if place < self.lists.len() {
-            put(&mut self.lists, place, Vec::from_slice(alloc, list)?);
+        let programme_index = programme.0 as usize;
+        if programme_index < self.lists.len() {
+            put(
+                &mut self.lists,
+                programme_index,
+                Vec::from_slice(alloc, list)?,
+            );
         }
         Ok(())
     }

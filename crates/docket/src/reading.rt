@@ -17,7 +17,7 @@ use std::hash::RandomState;
 #[derive(Drop)]
 pub(crate) struct Reading {
     pub(crate) records: u32,
-    pub(crate) texts: Texts,
+    pub(crate) name_texts: Texts,
     pub(crate) declared: Declarations,
     pub(crate) lists: Lists,
     pub(crate) sheet: SheetRows,
@@ -27,14 +27,14 @@ pub(crate) struct Reading {
 impl Reading {
     /// What the first pass keeps before any record is read. Texts that are added later are hashed with these keys,
     /// and declarations have to be within these limits.
-    pub(crate) fn new(alloc: Global, keys: RandomState, limits: Limits) -> Reading
+    pub(crate) fn new(alloc: Global, hash_keys: RandomState, limits: Limits) -> Reading
         ensures reading { IsReading result [] }
         ensures limits { result.declared.builder.limits ≡ limits }
-        ensures workers { IfSome result.declared.workers (λ n. n ≤ 8) }
+        ensures workers { IfSome result.declared.workers (λ count. count ≤ 8) }
     {
         Reading {
             records: 0,
-            texts: Texts::new(alloc, keys),
+            name_texts: Texts::new(alloc, hash_keys),
             declared: Declarations::new(alloc, limits),
             lists: Lists::new(alloc),
             sheet: SheetRows::new(alloc),
@@ -44,7 +44,7 @@ impl Reading {
 
     /// The number of the next record, from 1.
     #[inline(always)]
-    pub(crate) fn place(&self) -> u32
+    pub(crate) fn next_record_no(&self) -> u32
         requires { self.now.records < most_records_in self.now.declared.builder.limits }
         ensures { result ≡ self.now.records + 1 }
     {

@@ -33,7 +33,7 @@ impl RecordsFault {
     }
 
     // The number of the record at fault, or 0 if the fault names no record.
-    fn place(self) -> u32 {
+    fn record_no(self) -> u32 {
         match self {
             RecordsFault::Docket(fault) => number_of(fault),
             RecordsFault::TooManyListed { place } | RecordsFault::AnotherPart { place } => place,
@@ -69,9 +69,9 @@ pub struct FaultWithin {
 
 impl fmt::Display for FaultWithin {
     fn fmt<W: fmt::Write>(&self, f: &mut fmt::Formatter<W>) -> fmt::Result {
-        let place = self.fault.place();
-        if place > 0 {
-            write!(f, "record {place}: ")?;
+        let record_no = self.fault.record_no();
+        if record_no > 0 {
+            write!(f, "record {record_no}: ")?;
         }
         self.fault.write_cause(self.limits, f)
     }
@@ -106,8 +106,8 @@ pub(crate) fn counted_in_file(records_before: u32, fault: RecordsFault) -> Recor
     match fault {
         RecordsFault::Docket(fault) => {
             let same_fault = fault;
-            let place = number_of(fault).saturating_sub(records_before);
-            RecordsFault::Docket(at_place(place, same_fault))
+            let record_no = number_of(fault).saturating_sub(records_before);
+            RecordsFault::Docket(at_place(record_no, same_fault))
         }
         RecordsFault::TooManyListed { place } => RecordsFault::TooManyListed {
             place: place.saturating_sub(records_before),

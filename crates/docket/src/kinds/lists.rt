@@ -20,55 +20,55 @@ use records::field;
 /// is the number of the owner's name.
 pub(crate) fn list_row(
     lists: &mut Lists,
-    texts: &mut Texts,
+    name_texts: &mut Texts,
     row: &ByteRecord,
     side: Side,
-    place: u32,
+    record_no: u32,
 ) -> Result<usize, DocketFault>
     requires kind { kind_of (fields_of row.now) ≡ list_letter side }
-    ensures texts { StartsWith texts.old texts.new }
-    ensures owner { IfOk result (λ n.
-        slice_get texts.new n ≡ Some (field_of (fields_of row.now) 1)) }
+    ensures texts { StartsWith name_texts.old name_texts.new }
+    ensures owner { IfOk result (λ number.
+        slice_get name_texts.new number ≡ Some (field_of (fields_of row.now) 1)) }
     ensures kept { OnOk result ((rows : List Fields)
-        → place ≡ next_place rows → AreLists texts.old lists.old rows
-        → AreLists texts.new lists.new (rows ++ fields_of row.now ∷ [])) }
-    ensures fault { Answers (list_row_fault place (fields_of row.now)) result }
+        → record_no ≡ next_place rows → AreLists name_texts.old lists.old rows
+        → AreLists name_texts.new lists.new (rows ++ fields_of row.now ∷ [])) }
+    ensures fault { Answers (list_row_fault record_no (fields_of row.now)) result }
 {
     if row.len() < 2 {
-        return Err(DocketFault::FieldCount { place });
+        return Err(DocketFault::FieldCount { place: record_no });
     }
-    match lists.add_list(texts, row, side, place)? {
+    match lists.add_list(name_texts, row, side, record_no)? {
         Some(owner) => Ok(owner),
-        None => Err(DocketFault::BadName { place }),
+        None => Err(DocketFault::BadName { place: record_no }),
     }
 }
 
 /// Checks and keeps the withdrawal `W,P,programme` or `W,R,resident`. The answer is the side, and the number of the name.
 pub(crate) fn withdrawal_row(
     lists: &mut Lists,
-    texts: &mut Texts,
+    name_texts: &mut Texts,
     row: &ByteRecord,
-    place: u32,
+    record_no: u32,
 ) -> Result<(Side, usize), DocketFault>
     requires kind { kind_of (fields_of row.now) ≡ WITHDRAWAL }
-    ensures texts { StartsWith texts.old texts.new }
+    ensures texts { StartsWith name_texts.old name_texts.new }
     ensures side { IfOk result (λ withdrawal.
         field_of (fields_of row.now) 1 ≡ side_text withdrawal.0) }
     ensures name { IfOk result (λ withdrawal.
-        slice_get texts.new withdrawal.1 ≡ Some (field_of (fields_of row.now) 2)) }
+        slice_get name_texts.new withdrawal.1 ≡ Some (field_of (fields_of row.now) 2)) }
     ensures kept { OnOk result ((rows : List Fields)
-        → place ≡ next_place rows → AreLists texts.old lists.old rows
-        → AreLists texts.new lists.new (rows ++ fields_of row.now ∷ [])) }
-    ensures fault { Answers (withdrawal_row_fault place (fields_of row.now)) result }
+        → record_no ≡ next_place rows → AreLists name_texts.old lists.old rows
+        → AreLists name_texts.new lists.new (rows ++ fields_of row.now ∷ [])) }
+    ensures fault { Answers (withdrawal_row_fault record_no (fields_of row.now)) result }
 {
     if row.len() != 3 {
-        return Err(DocketFault::FieldCount { place });
+        return Err(DocketFault::FieldCount { place: record_no });
     }
     let Some(side) = side_of(field(row, 1)) else {
-        return Err(DocketFault::BadWithdrawal { place });
+        return Err(DocketFault::BadWithdrawal { place: record_no });
     };
-    match lists.add_withdrawal(texts, row, side, place)? {
+    match lists.add_withdrawal(name_texts, row, side, record_no)? {
         Some(name) => Ok((side, name)),
-        None => Err(DocketFault::BadName { place }),
+        None => Err(DocketFault::BadName { place: record_no }),
     }
 }

@@ -20,28 +20,28 @@ use records::field;
 
 /// Checks `Q,programme,quota`. The answer is the number of the programme's name, and the quota.
 pub(crate) fn programme_row(
-    texts: &mut Texts,
+    name_texts: &mut Texts,
     row: &ByteRecord,
-    place: u32,
+    record_no: u32,
 ) -> Result<(usize, u32), DocketFault>
-    ensures texts { StartsWith texts.old texts.new }
+    ensures texts { StartsWith name_texts.old name_texts.new }
     ensures name { IfOk result (λ name_and_quota.
-        slice_get texts.new name_and_quota.0 ≡ Some (field_of (fields_of row.now) 1)) }
+        slice_get name_texts.new name_and_quota.0 ≡ Some (field_of (fields_of row.now) 1)) }
     ensures named { IfOk result (λ name_and_quota.
         names.is_name (field_of (fields_of row.now) 1) ≡ true) }
     ensures quota { IfOk result (λ name_and_quota.
         names.number_of (field_of (fields_of row.now) 2) ≡ Some name_and_quota.1) }
-    ensures fault { Answers (quota_row_fault place (fields_of row.now)) result }
+    ensures fault { Answers (quota_row_fault record_no (fields_of row.now)) result }
 {
     if row.len() != 3 {
-        return Err(DocketFault::FieldCount { place });
+        return Err(DocketFault::FieldCount { place: record_no });
     }
-    let Some(name) = texts.name(field(row, 1))? else {
-        return Err(DocketFault::BadName { place });
+    let Some(name) = name_texts.name(field(row, 1))? else {
+        return Err(DocketFault::BadName { place: record_no });
     };
     match number_of(field(row, 2)) {
         Some(quota) => Ok((name, quota)),
-        None => Err(DocketFault::BadQuota { place }),
+        None => Err(DocketFault::BadQuota { place: record_no }),
     }
 }
 
@@ -49,39 +49,39 @@ pub(crate) fn programme_row(
 /// number of workers.
 pub(crate) fn capacity_row(
     row: &ByteRecord,
-    place: u32,
+    record_no: u32,
 ) -> Result<(Capacity, Option<u32>), DocketFault>
     ensures capacity { IfOk result (λ capacity_and_workers.
         words.capacity_of (field_of (fields_of row.now) 1) ≡ Some capacity_and_workers.0) }
     ensures workers { IfOk result (λ capacity_and_workers.
         words.workers_of (field_of (fields_of row.now) 2) ≡ capacity_and_workers.1) }
-    ensures fault { Answers (capacity_row_fault place (fields_of row.now)) result }
+    ensures fault { Answers (capacity_row_fault record_no (fields_of row.now)) result }
 {
     if row.len() != 2 && row.len() != 3 {
-        return Err(DocketFault::FieldCount { place });
+        return Err(DocketFault::FieldCount { place: record_no });
     }
     let Some(capacity) = capacity_of(field(row, 1)) else {
-        return Err(DocketFault::BadEvent { place });
+        return Err(DocketFault::BadEvent { place: record_no });
     };
     let workers = workers_of(field(row, 2));
     if row.len() == 3 && workers.is_none() {
-        return Err(DocketFault::BadEvent { place });
+        return Err(DocketFault::BadEvent { place: record_no });
     }
     Ok((capacity, workers))
 }
 
 /// The fault of a `V` record, or none. The kind `V` is allowed only in the first record.
-pub(crate) fn version_fault_of(row: &ByteRecord, place: u32) -> Option<DocketFault>
-    ensures { result ≡ version_fault place (fields_of row.now) }
+pub(crate) fn version_fault_of(row: &ByteRecord, record_no: u32) -> Option<DocketFault>
+    ensures { result ≡ version_fault record_no (fields_of row.now) }
 {
-    if place != 1 {
-        return Some(DocketFault::UnknownKind { place });
+    if record_no != 1 {
+        return Some(DocketFault::UnknownKind { place: record_no });
     }
     if row.len() != 2 {
-        return Some(DocketFault::FieldCount { place });
+        return Some(DocketFault::FieldCount { place: record_no });
     }
     if field(row, 1) != b"2".as_slice() {
-        return Some(DocketFault::BadVersion { place });
+        return Some(DocketFault::BadVersion { place: record_no });
     }
     None
 }

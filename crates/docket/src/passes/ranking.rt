@@ -27,44 +27,48 @@ use docket_names::Members;
 use match_model::{Instance, InstanceBuilder, ProgrammeNo, ResidentNo, WrittenLists};
 use std::alloc::{AllocError, Global};
 
-// Fills `listed` with the residents whose names have these numbers.
+// Fills `list_buffer` with the residents whose names have these numbers.
 fn listed_residents(
-    place: u32,
-    names: &[u32],
+    record_no: u32,
+    name_numbers: &[u32],
     residents: &Members,
-    listed: &mut Vec<ResidentNo>,
+    list_buffer: &mut Vec<ResidentNo>,
 ) -> Result<(), DocketFault>
-    ensures listed { OnOk result (listed.new.items ≡ map (member_at residents.now) names.now) }
+    ensures listed { OnOk result
+        (list_buffer.new.items ≡ map (member_at residents.now) name_numbers.now) }
     ensures fault { Answers
-        (unless (list_all (is_member residents.now) names.now) (UnknownName place)) result }
+        (unless (list_all (is_member residents.now) name_numbers.now)
+        (UnknownName record_no)) result }
 {
-    listed.clear();
-    for name in names {
+    list_buffer.clear();
+    for name in name_numbers {
         let Some(resident) = residents.member(*name as usize) else {
-            return Err(DocketFault::UnknownName { place });
+            return Err(DocketFault::UnknownName { place: record_no });
         };
-        listed.push(ResidentNo(resident))?;
+        list_buffer.push(ResidentNo(resident))?;
     }
     Ok(())
 }
 
-// Fills `listed` with the programmes whose names have these numbers.
+// Fills `list_buffer` with the programmes whose names have these numbers.
 fn listed_programmes(
-    place: u32,
-    names: &[u32],
+    record_no: u32,
+    name_numbers: &[u32],
     programmes: &Members,
-    listed: &mut Vec<ProgrammeNo>,
+    list_buffer: &mut Vec<ProgrammeNo>,
 ) -> Result<(), DocketFault>
-    ensures listed { OnOk result (listed.new.items ≡ map (member_at programmes.now) names.now) }
+    ensures listed { OnOk result
+        (list_buffer.new.items ≡ map (member_at programmes.now) name_numbers.now) }
     ensures fault { Answers
-        (unless (list_all (is_member programmes.now) names.now) (UnknownName place)) result }
+        (unless (list_all (is_member programmes.now) name_numbers.now)
+        (UnknownName record_no)) result }
 {
-    listed.clear();
-    for name in names {
+    list_buffer.clear();
+    for name in name_numbers {
         let Some(programme) = programmes.member(*name as usize) else {
-            return Err(DocketFault::UnknownName { place });
+            return Err(DocketFault::UnknownName { place: record_no });
         };
-        listed.push(ProgrammeNo(programme))?;
+        list_buffer.push(ProgrammeNo(programme))?;
     }
     Ok(())
 }
@@ -77,38 +81,40 @@ fn rank_residents(
     residents: &Members,
     builder: &mut InstanceBuilder,
     programme_lists: &mut ProgrammeLists,
-    listed: &mut Vec<ResidentNo>,
+    list_buffer: &mut Vec<ResidentNo>,
 ) -> Result<(), DocketFault>
-    ensures ranked { OnOk result ((texts : Fields) (rows : List Fields) (k : ℕ)
-        → IsNext texts programmes.now residents.now builder.old rows k
+    ensures ranked { OnOk result ((name_texts : Fields) (rows : List Fields) (record_index : ℕ)
+        → IsNext name_texts programmes.now residents.now builder.old rows record_index
         (record {
-          place = row.now.place;
+          record_no = row.now.record_no;
           kind = Ranking Programmes;
           owner = row.now.owner;
-          listed = row.now.listed.now;
-        }) → IsRanked builder.new rows (take (k + 1) rows)) }
-    ensures fault { (texts : Fields) (rows : List Fields) (k : ℕ)
-        → IsNext texts programmes.now residents.now builder.old rows k
+          listed = row.now.listed_names.now;
+        }) → IsRanked builder.new rows (take (record_index + 1) rows)) }
+    ensures fault { (name_texts : Fields) (rows : List Fields) (record_index : ℕ)
+        → IsNext name_texts programmes.now residents.now builder.old rows record_index
         (record {
-          place = row.now.place;
+          record_no = row.now.record_no;
           kind = Ranking Programmes;
           owner = row.now.owner;
-          listed = row.now.listed.now;
+          listed = row.now.listed_names.now;
         })
-        → Answers (ranking_fault rows (take k rows) (row_at rows k)) result }
+        → Answers (ranking_fault rows (take record_index rows) (row_at rows record_index)) result }
     ensures limits { OnOk result (builder.new.limits ≡ builder.old.limits) }
     ensures given { OnOk result (programme_lists.old ≡ builder.old.programme_lists
         → programme_lists.new ≡ builder.new.programme_lists) }
 {
     let Some(owner) = programmes.member(row.owner as usize) else {
-        return Err(DocketFault::UnknownName { place: row.place });
+        return Err(DocketFault::UnknownName {
+            place: row.record_no,
+        });
     };
-    listed_residents(row.place, row.listed, residents, listed)?;
-    let (owner, list) = (ProgrammeNo(owner), listed.as_slice());
+    listed_residents(row.record_no, row.listed_names, residents, list_buffer)?;
+    let (owner, list) = (ProgrammeNo(owner), list_buffer.as_slice());
     programme_lists.give(alloc, owner, list)?;
     match builder.programme_list(owner, list) {
         Ok(()) => Ok(()),
-        Err(fault) => Err(model_fault(row.place, fault)),
+        Err(fault) => Err(model_fault(row.record_no, fault)),
     }
 }
 
@@ -118,35 +124,37 @@ fn rank_programmes(
     programmes: &Members,
     residents: &Members,
     builder: &mut InstanceBuilder,
-    listed: &mut Vec<ProgrammeNo>,
+    list_buffer: &mut Vec<ProgrammeNo>,
 ) -> Result<(), DocketFault>
-    ensures ranked { OnOk result ((texts : Fields) (rows : List Fields) (k : ℕ)
-        → IsNext texts programmes.now residents.now builder.old rows k
+    ensures ranked { OnOk result ((name_texts : Fields) (rows : List Fields) (record_index : ℕ)
+        → IsNext name_texts programmes.now residents.now builder.old rows record_index
         (record {
-          place = row.now.place;
+          record_no = row.now.record_no;
           kind = Ranking Residents;
           owner = row.now.owner;
-          listed = row.now.listed.now;
-        }) → IsRanked builder.new rows (take (k + 1) rows)) }
-    ensures fault { (texts : Fields) (rows : List Fields) (k : ℕ)
-        → IsNext texts programmes.now residents.now builder.old rows k
+          listed = row.now.listed_names.now;
+        }) → IsRanked builder.new rows (take (record_index + 1) rows)) }
+    ensures fault { (name_texts : Fields) (rows : List Fields) (record_index : ℕ)
+        → IsNext name_texts programmes.now residents.now builder.old rows record_index
         (record {
-          place = row.now.place;
+          record_no = row.now.record_no;
           kind = Ranking Residents;
           owner = row.now.owner;
-          listed = row.now.listed.now;
+          listed = row.now.listed_names.now;
         })
-        → Answers (ranking_fault rows (take k rows) (row_at rows k)) result }
+        → Answers (ranking_fault rows (take record_index rows) (row_at rows record_index)) result }
     ensures limits { OnOk result (builder.new.limits ≡ builder.old.limits) }
     ensures same { OnOk result (builder.new.programme_lists ≡ builder.old.programme_lists) }
 {
     let Some(owner) = residents.member(row.owner as usize) else {
-        return Err(DocketFault::UnknownName { place: row.place });
+        return Err(DocketFault::UnknownName {
+            place: row.record_no,
+        });
     };
-    listed_programmes(row.place, row.listed, programmes, listed)?;
-    match builder.resident_list(ResidentNo(owner), listed.as_slice()) {
+    listed_programmes(row.record_no, row.listed_names, programmes, list_buffer)?;
+    match builder.resident_list(ResidentNo(owner), list_buffer.as_slice()) {
         Ok(()) => Ok(()),
-        Err(fault) => Err(model_fault(row.place, fault)),
+        Err(fault) => Err(model_fault(row.record_no, fault)),
     }
 }
 
@@ -156,31 +164,35 @@ fn withdraw_programme(
     programmes: &Members,
     builder: &mut InstanceBuilder,
 ) -> Result<(), DocketFault>
-    ensures ranked { OnOk result ((texts : Fields) (rows : List Fields) (residents : List ℕ) (k : ℕ)
-        → IsNext texts programmes.now residents builder.old rows k (record {
-          place = row.now.place;
+    ensures ranked { OnOk result ((name_texts : Fields) (rows : List Fields)
+        (residents : List ℕ) (record_index : ℕ)
+        → IsNext name_texts programmes.now residents builder.old rows record_index (record {
+          record_no = row.now.record_no;
           kind = Withdrawal Programmes;
           owner = row.now.owner;
           listed = [];
         })
-        → IsRanked builder.new rows (take (k + 1) rows)) }
-    ensures fault { (texts : Fields) (rows : List Fields) (residents : List ℕ) (k : ℕ)
-        → IsNext texts programmes.now residents builder.old rows k (record {
-          place = row.now.place;
+        → IsRanked builder.new rows (take (record_index + 1) rows)) }
+    ensures fault { (name_texts : Fields) (rows : List Fields)
+        (residents : List ℕ) (record_index : ℕ)
+        → IsNext name_texts programmes.now residents builder.old rows record_index (record {
+          record_no = row.now.record_no;
           kind = Withdrawal Programmes;
           owner = row.now.owner;
           listed = [];
         })
-        → Answers (ranking_fault rows (take k rows) (row_at rows k)) result }
+        → Answers (ranking_fault rows (take record_index rows) (row_at rows record_index)) result }
     ensures limits { OnOk result (builder.new.limits ≡ builder.old.limits) }
     ensures same { OnOk result (builder.new.programme_lists ≡ builder.old.programme_lists) }
 {
     let Some(programme) = programmes.member(row.owner as usize) else {
-        return Err(DocketFault::UnknownName { place: row.place });
+        return Err(DocketFault::UnknownName {
+            place: row.record_no,
+        });
     };
     match builder.withdraw_programme(ProgrammeNo(programme)) {
         Ok(()) => Ok(()),
-        Err(fault) => Err(model_fault(row.place, fault)),
+        Err(fault) => Err(model_fault(row.record_no, fault)),
     }
 }
 
@@ -190,35 +202,39 @@ fn withdraw_resident(
     residents: &Members,
     builder: &mut InstanceBuilder,
 ) -> Result<(), DocketFault>
-    ensures ranked { OnOk result ((texts : Fields) (rows : List Fields)
-        (programmes : List ℕ) (k : ℕ) → IsNext texts programmes residents.now builder.old rows k
+    ensures ranked { OnOk result ((name_texts : Fields) (rows : List Fields)
+        (programmes : List ℕ) (record_index : ℕ)
+        → IsNext name_texts programmes residents.now builder.old rows record_index
         (record {
-          place = row.now.place;
+          record_no = row.now.record_no;
           kind = Withdrawal Residents;
           owner = row.now.owner;
           listed = [];
-        }) → IsRanked builder.new rows (take (k + 1) rows)) }
-    ensures fault { (texts : Fields) (rows : List Fields) (programmes : List ℕ) (k : ℕ)
-        → IsNext texts programmes residents.now builder.old rows k (record {
-          place = row.now.place;
+        }) → IsRanked builder.new rows (take (record_index + 1) rows)) }
+    ensures fault { (name_texts : Fields) (rows : List Fields)
+        (programmes : List ℕ) (record_index : ℕ)
+        → IsNext name_texts programmes residents.now builder.old rows record_index (record {
+          record_no = row.now.record_no;
           kind = Withdrawal Residents;
           owner = row.now.owner;
           listed = [];
         })
-        → Answers (ranking_fault rows (take k rows) (row_at rows k)) result }
+        → Answers (ranking_fault rows (take record_index rows) (row_at rows record_index)) result }
     ensures limits { OnOk result (builder.new.limits ≡ builder.old.limits) }
     ensures same { OnOk result (builder.new.programme_lists ≡ builder.old.programme_lists) }
 {
     let Some(resident) = residents.member(row.owner as usize) else {
-        return Err(DocketFault::UnknownName { place: row.place });
+        return Err(DocketFault::UnknownName {
+            place: row.record_no,
+        });
     };
     match builder.withdraw_resident(ResidentNo(resident)) {
         Ok(()) => Ok(()),
-        Err(fault) => Err(model_fault(row.place, fault)),
+        Err(fault) => Err(model_fault(row.record_no, fault)),
     }
 }
 
-// Gives the builder the list or the withdrawal in row `j` of the store.
+// Gives the builder the list or the withdrawal in this row of the store.
 fn rank_row(
     alloc: Global,
     lists: &Lists,
@@ -231,14 +247,16 @@ fn rank_row(
     listed_by_resident: &mut Vec<ProgrammeNo>,
 ) -> Result<(), DocketFault>
     requires { row_index < length lists.now.entries }
-    ensures ranked { OnOk result ((texts : Fields) (rows : List Fields) (k : ℕ) (entry : KeptEntry)
+    ensures ranked { OnOk result ((name_texts : Fields) (rows : List Fields)
+        (record_index : ℕ) (entry : KeptEntry)
         → slice_get lists.now.entries row_index ≡ Some entry
-        → IsNext texts programmes.now residents.now builder.old rows k entry
-        → IsRanked builder.new rows (take (k + 1) rows)) }
-    ensures fault { (texts : Fields) (rows : List Fields) (k : ℕ) (entry : KeptEntry)
+        → IsNext name_texts programmes.now residents.now builder.old rows record_index entry
+        → IsRanked builder.new rows (take (record_index + 1) rows)) }
+    ensures fault { (name_texts : Fields) (rows : List Fields)
+        (record_index : ℕ) (entry : KeptEntry)
         → slice_get lists.now.entries row_index ≡ Some entry
-        → IsNext texts programmes.now residents.now builder.old rows k entry
-        → Answers (ranking_fault rows (take k rows) (row_at rows k)) result }
+        → IsNext name_texts programmes.now residents.now builder.old rows record_index entry
+        → Answers (ranking_fault rows (take record_index rows) (row_at rows record_index)) result }
     ensures limits { OnOk result (builder.new.limits ≡ builder.old.limits) }
     ensures given { OnOk result (programme_lists.old ≡ builder.old.programme_lists
         → programme_lists.new ≡ builder.new.programme_lists) }
@@ -271,11 +289,11 @@ fn rank(
     builder: &mut InstanceBuilder,
     programme_lists: &mut ProgrammeLists,
 ) -> Result<(), DocketFault>
-    ensures ranked { OnOk result ((texts : Fields) (rows : List Fields)
-        → AreLists texts lists.now rows → AreKnown texts programmes.now residents.now rows
+    ensures ranked { OnOk result ((name_texts : Fields) (rows : List Fields)
+        → AreLists name_texts lists.now rows → AreKnown name_texts programmes.now residents.now rows
         → IsRanked builder.old rows [] → IsRanked builder.new rows rows) }
-    ensures fault { (texts : Fields) (rows : List Fields)
-        → AreLists texts lists.now rows → AreKnown texts programmes.now residents.now rows
+    ensures fault { (name_texts : Fields) (rows : List Fields)
+        → AreLists name_texts lists.now rows → AreKnown name_texts programmes.now residents.now rows
         → IsRanked builder.old rows [] → Answers (first_from (ranking_fault rows) [] rows) result }
     ensures limits { OnOk result (builder.new.limits ≡ builder.old.limits) }
     ensures given { OnOk result (programme_lists.old ≡ builder.old.programme_lists
@@ -283,11 +301,11 @@ fn rank(
 {
     let mut listed_by_programme = Vec::new(alloc);
     let mut listed_by_resident = Vec::new(alloc);
-    for j in 0..lists.len() {
+    for row_index in 0..lists.len() {
         rank_row(
             alloc,
             lists,
-            j,
+            row_index,
             programmes,
             residents,
             builder,
@@ -302,7 +320,7 @@ fn rank(
 // The instance that the builder makes after this many records, and the lists if `keeps_lists` is set.
 fn finished(
     builder: InstanceBuilder,
-    records: u32,
+    record_count: u32,
     programme_lists: ProgrammeLists,
     keeps_lists: bool,
 ) -> Result<(Instance, Option<(WrittenLists, ProgrammeLists)>), DocketFault>
@@ -313,12 +331,15 @@ fn finished(
         → (keeps_lists ≡ true → programme_lists ≡ builder.programme_lists)
         → instance_and_lists.1 ≡ lists_if keeps_lists rows) }
     ensures fault { (rows : List Fields) → IsRanked builder rows rows
-        → records ≡ length rows → Answers (pairs_fault builder.limits rows) result }
+        → record_count ≡ length rows → Answers (pairs_fault builder.limits rows) result }
 {
     match builder.finish_with_lists() {
-        Ok((instance, lists)) if keeps_lists => Ok((instance, Some((lists, programme_lists)))),
+        Ok((instance, written_lists)) if keeps_lists => Ok((
+            instance,
+            Some((written_lists, programme_lists)),
+        )),
         Ok((instance, _)) => Ok((instance, None)),
-        Err(refused) => Err(model_fault(records, refused.fault)),
+        Err(refused) => Err(model_fault(record_count, refused.fault)),
     }
 }
 
@@ -338,24 +359,24 @@ fn no_lists(
 /// `keeps_lists` is set.
 pub(crate) fn instance_of(
     alloc: Global,
-    records: u32,
+    record_count: u32,
     lists: &Lists,
     programmes: &Members,
     residents: &Members,
     mut builder: InstanceBuilder,
     keeps_lists: bool,
 ) -> Result<(Instance, Option<(WrittenLists, ProgrammeLists)>), DocketFault>
-    ensures instance { IfOk result (λ instance_and_lists. (texts : Fields) (rows : List Fields)
-        → AreLists texts lists.now rows → AreKnown texts programmes.now residents.now rows
-        → IsRanked builder rows [] → records ≡ length rows
+    ensures instance { IfOk result (λ instance_and_lists. (name_texts : Fields) (rows : List Fields)
+        → AreLists name_texts lists.now rows → AreKnown name_texts programmes.now residents.now rows
+        → IsRanked builder rows [] → record_count ≡ length rows
         → instance_and_lists.0 ≡ instance_from (draft_of rows)) }
-    ensures lists { IfOk result (λ instance_and_lists. (texts : Fields) (rows : List Fields)
-        → AreLists texts lists.now rows → AreKnown texts programmes.now residents.now rows
-        → IsRanked builder rows [] → records ≡ length rows
+    ensures lists { IfOk result (λ instance_and_lists. (name_texts : Fields) (rows : List Fields)
+        → AreLists name_texts lists.now rows → AreKnown name_texts programmes.now residents.now rows
+        → IsRanked builder rows [] → record_count ≡ length rows
         → instance_and_lists.1 ≡ lists_if keeps_lists rows) }
-    ensures fault { (texts : Fields) (rows : List Fields)
-        → AreLists texts lists.now rows → AreKnown texts programmes.now residents.now rows
-        → IsRanked builder rows [] → records ≡ length rows → Answers (option_or
+    ensures fault { (name_texts : Fields) (rows : List Fields)
+        → AreLists name_texts lists.now rows → AreKnown name_texts programmes.now residents.now rows
+        → IsRanked builder rows [] → record_count ≡ length rows → Answers (option_or
         (first_from (ranking_fault rows) [] rows) (pairs_fault builder.limits rows)) result }
 {
     let mut programme_lists = no_lists(alloc, programmes, keeps_lists)?;
@@ -367,5 +388,5 @@ pub(crate) fn instance_of(
         &mut builder,
         &mut programme_lists,
     )?;
-    finished(builder, records, programme_lists, keeps_lists)
+    finished(builder, record_count, programme_lists, keeps_lists)
 }

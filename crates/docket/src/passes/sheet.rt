@@ -37,15 +37,15 @@ fn all_set(flags: &[bool]) -> bool
 }
 
 // The member whose name is the text with this number.
-fn known_member(members: &Members, text: u32, place: u32) -> Result<u32, DocketFault>
+fn known_member(members: &Members, text: u32, record_no: u32) -> Result<u32, DocketFault>
     ensures member { IfOk result (λ member. position (nat_eq text) members.now ≡ Some member) }
     ensures below { IfOk result (λ member. member < length members.now) }
     ensures fault { Answers (unless
-        (is_some (position (nat_eq text) members.now)) (DocketFault.UnknownName place)) result }
+        (is_some (position (nat_eq text) members.now)) (DocketFault.UnknownName record_no)) result }
 {
     match members.member(text as usize) {
         Some(member) => Ok(member),
-        None => Err(DocketFault::UnknownName { place }),
+        None => Err(DocketFault::UnknownName { place: record_no }),
     }
 }
 
@@ -54,9 +54,9 @@ fn known_member(members: &Members, text: u32, place: u32) -> Result<u32, DocketF
 struct Marks {
     sheet: Assignment,
     // For each resident, whether an M or U row of this resident was read.
-    marked: Vec<bool>,
+    marked_residents: Vec<bool>,
     // For each programme, whether an F row of this programme was read.
-    filled: Vec<bool>,
+    filled_programmes: Vec<bool>,
     // For each programme, the number of M rows with this programme.
     matched_counts: Vec<u32>,
 }
@@ -67,7 +67,7 @@ impl Marks {
     // The marks before any row of the sheet is read.
     fn new(alloc: Global, programmes: usize, residents: usize) -> Result<Marks, DocketFault>
         ensures blank { IfOk result (λ marks. IsBlank marks programmes residents) }
-        ensures memory { IfErr result (λ e. e ≡ DocketFault.Memory) }
+        ensures memory { IfErr result (λ fault. fault ≡ DocketFault.Memory) }
     {
         let Ok(resident_count) = u32::try_from(residents) else {
             return Err(DocketFault::Memory);
@@ -75,13 +75,13 @@ impl Marks {
         let Ok(sheet) = Assignment::new(alloc, resident_count) else {
             return Err(DocketFault::Memory);
         };
-        let marked = flags(alloc, residents)?;
-        let filled = flags(alloc, programmes)?;
+        let marked_residents = flags(alloc, residents)?;
+        let filled_programmes = flags(alloc, programmes)?;
         let matched_counts = zeros(alloc, programmes)?;
         Ok(Marks {
             sheet,
-            marked,
-            filled,
+            marked_residents,
+            filled_programmes,
             matched_counts,
         })
     }
@@ -91,31 +91,31 @@ impl Marks {
         &mut self,
         programmes: &Members,
         residents: &Members,
-        place: u32,
+        record_no: u32,
         resident: u32,
         programme: u32,
     ) -> Result<(), DocketFault>
         requires sizes { IsSized self.old (length programmes.now) (length residents.now) }
         ensures sizes { OnOk result
             (IsSized self.new (length programmes.now) (length residents.now)) }
-        ensures marked { OnOk result ((texts : Fields) (all_rows rows_before : List Fields)
+        ensures marked { OnOk result ((name_texts : Fields) (all_rows rows_before : List Fields)
             (row : Fields)
-            → StandsAfter texts programmes.now residents.now all_rows rows_before place
+            → StandsAfter name_texts programmes.now residents.now all_rows rows_before record_no
             (Mark.Matched resident programme) row
             → IsMarked self.old all_rows rows_before
             → IsMarked self.new all_rows (rows_before ++ row ∷ [])) }
-        ensures fault { (texts : Fields) (all_rows rows_before : List Fields) (row : Fields)
-            → StandsAfter texts programmes.now residents.now all_rows rows_before place
+        ensures fault { (name_texts : Fields) (all_rows rows_before : List Fields) (row : Fields)
+            → StandsAfter name_texts programmes.now residents.now all_rows rows_before record_no
             (Mark.Matched resident programme) row
             → IsMarked self.old all_rows rows_before
             → Answers (mark_fault all_rows rows_before row) result }
     {
-        let resident = known_member(residents, resident, place)?;
-        let programme = known_member(programmes, programme, place)?;
-        if self.marked[resident as usize] {
-            return Err(DocketFault::BadSheet { place });
+        let resident = known_member(residents, resident, record_no)?;
+        let programme = known_member(programmes, programme, record_no)?;
+        if self.marked_residents[resident as usize] {
+            return Err(DocketFault::BadSheet { place: record_no });
         }
-        self.marked[resident as usize] = true;
+        self.marked_residents[resident as usize] = true;
         self.matched_counts[programme as usize] =
             self.matched_counts[programme as usize].saturating_add(1);
         self.sheet
@@ -127,29 +127,30 @@ impl Marks {
     fn add_unmatched(
         &mut self,
         residents: &Members,
-        place: u32,
+        record_no: u32,
         resident: u32,
     ) -> Result<(), DocketFault>
-        requires sizes { length self.old.marked.items ≡ length residents.now }
+        requires sizes { length self.old.marked_residents.items ≡ length residents.now }
         ensures sizes { (programmes : ℕ) → IsSized self.old programmes (length residents.now)
             → OnOk result (IsSized self.new programmes (length residents.now)) }
         ensures marked { (programmes : List ℕ)
-            → OnOk result ((texts : Fields) (all_rows rows_before : List Fields) (row : Fields)
-            → StandsAfter texts programmes residents.now all_rows rows_before place
+            → OnOk result ((name_texts : Fields) (all_rows rows_before : List Fields) (row : Fields)
+            → StandsAfter name_texts programmes residents.now all_rows rows_before record_no
             (Mark.Unmatched resident) row
             → IsMarked self.old all_rows rows_before
             → IsMarked self.new all_rows (rows_before ++ row ∷ [])) }
-        ensures fault { (programmes : List ℕ) (texts : Fields) (all_rows rows_before : List Fields)
-            (row : Fields) → StandsAfter texts programmes residents.now all_rows rows_before place
+        ensures fault { (programmes : List ℕ) (name_texts : Fields)
+            (all_rows rows_before : List Fields) (row : Fields)
+            → StandsAfter name_texts programmes residents.now all_rows rows_before record_no
             (Mark.Unmatched resident) row
             → IsMarked self.old all_rows rows_before
             → Answers (mark_fault all_rows rows_before row) result }
     {
-        let resident = known_member(residents, resident, place)?;
-        if self.marked[resident as usize] {
-            return Err(DocketFault::BadSheet { place });
+        let resident = known_member(residents, resident, record_no)?;
+        if self.marked_residents[resident as usize] {
+            return Err(DocketFault::BadSheet { place: record_no });
         }
-        self.marked[resident as usize] = true;
+        self.marked_residents[resident as usize] = true;
         Ok(())
     }
 
@@ -158,31 +159,31 @@ impl Marks {
     fn add_filled(
         &mut self,
         programmes: &Members,
-        place: u32,
+        record_no: u32,
         programme: u32,
     ) -> Result<(), DocketFault>
-        requires sizes { length self.old.filled.items ≡ length programmes.now }
+        requires sizes { length self.old.filled_programmes.items ≡ length programmes.now }
         ensures sizes { (residents : ℕ) → IsSized self.old (length programmes.now) residents
             → OnOk result (IsSized self.new (length programmes.now) residents) }
         ensures marked { (filled quota : ℕ) (residents : List ℕ)
-            → OnOk result ((texts : Fields) (all_rows rows_before : List Fields) (row : Fields)
-            → StandsAfter texts programmes.now residents all_rows rows_before place
+            → OnOk result ((name_texts : Fields) (all_rows rows_before : List Fields) (row : Fields)
+            → StandsAfter name_texts programmes.now residents all_rows rows_before record_no
             (Mark.Filled programme filled quota) row
             → IsMarked self.old all_rows rows_before
             → IsMarked self.new all_rows (rows_before ++ row ∷ [])) }
         ensures fault { (filled quota : ℕ)
-            (residents : List ℕ) (texts : Fields) (all_rows rows_before : List Fields)
+            (residents : List ℕ) (name_texts : Fields) (all_rows rows_before : List Fields)
             (row : Fields)
-            → StandsAfter texts programmes.now residents all_rows rows_before place
+            → StandsAfter name_texts programmes.now residents all_rows rows_before record_no
             (Mark.Filled programme filled quota) row
             → IsMarked self.old all_rows rows_before
             → Answers (mark_fault all_rows rows_before row) result }
     {
-        let programme = known_member(programmes, programme, place)?;
-        if self.filled[programme as usize] {
-            return Err(DocketFault::BadSheet { place });
+        let programme = known_member(programmes, programme, record_no)?;
+        if self.filled_programmes[programme as usize] {
+            return Err(DocketFault::BadSheet { place: record_no });
         }
-        self.filled[programme as usize] = true;
+        self.filled_programmes[programme as usize] = true;
         Ok(())
     }
 
@@ -191,31 +192,31 @@ impl Marks {
         &mut self,
         programmes: &Members,
         residents: &Members,
-        kept: SheetRow,
+        sheet_row: SheetRow,
     ) -> Result<(), DocketFault>
         requires sizes { IsSized self.old (length programmes.now) (length residents.now) }
         ensures sizes { OnOk result
             (IsSized self.new (length programmes.now) (length residents.now)) }
-        ensures marked { OnOk result ((texts : Fields) (all_rows rows_before : List Fields)
+        ensures marked { OnOk result ((name_texts : Fields) (all_rows rows_before : List Fields)
             (row : Fields)
-            → StandsAfter texts programmes.now residents.now all_rows rows_before
-            kept.place kept.mark row
+            → StandsAfter name_texts programmes.now residents.now all_rows rows_before
+            sheet_row.record_no sheet_row.mark row
             → IsMarked self.old all_rows rows_before
             → IsMarked self.new all_rows (rows_before ++ row ∷ [])) }
-        ensures fault { (texts : Fields) (all_rows rows_before : List Fields) (row : Fields)
-            → StandsAfter texts programmes.now residents.now all_rows rows_before
-            kept.place kept.mark row
+        ensures fault { (name_texts : Fields) (all_rows rows_before : List Fields) (row : Fields)
+            → StandsAfter name_texts programmes.now residents.now all_rows rows_before
+            sheet_row.record_no sheet_row.mark row
             → IsMarked self.old all_rows rows_before
             → Answers (mark_fault all_rows rows_before row) result }
     {
-        let place = kept.place;
-        match kept.mark {
+        let record_no = sheet_row.record_no;
+        match sheet_row.mark {
             Mark::Matched {
                 resident,
                 programme,
-            } => self.add_matched(programmes, residents, place, resident, programme),
-            Mark::Unmatched { resident } => self.add_unmatched(residents, place, resident),
-            Mark::Filled { programme, .. } => self.add_filled(programmes, place, programme),
+            } => self.add_matched(programmes, residents, record_no, resident, programme),
+            Mark::Unmatched { resident } => self.add_unmatched(residents, record_no, resident),
+            Mark::Filled { programme, .. } => self.add_filled(programmes, record_no, programme),
         }
     }
 
@@ -229,18 +230,18 @@ impl Marks {
         requires sizes { IsSized self.old (length programmes.now) (length residents.now) }
         ensures sizes { OnOk result
             (IsSized self.new (length programmes.now) (length residents.now)) }
-        ensures marked { OnOk result ((texts : Fields) (all_rows : List Fields)
-            → AreSheetRows texts rows.now all_rows
-            → AreKnown texts programmes.now residents.now all_rows
+        ensures marked { OnOk result ((name_texts : Fields) (all_rows : List Fields)
+            → AreSheetRows name_texts rows.now all_rows
+            → AreKnown name_texts programmes.now residents.now all_rows
             → IsMarked self.old all_rows [] → IsMarked self.new all_rows all_rows) }
-        ensures fault { (texts : Fields) (all_rows : List Fields)
-            → AreSheetRows texts rows.now all_rows
-            → AreKnown texts programmes.now residents.now all_rows
+        ensures fault { (name_texts : Fields) (all_rows : List Fields)
+            → AreSheetRows name_texts rows.now all_rows
+            → AreKnown name_texts programmes.now residents.now all_rows
             → IsMarked self.old all_rows []
             → Answers (first_from (mark_fault all_rows) [] all_rows) result }
     {
-        for kept in rows {
-            self.add_row(programmes, residents, *kept)?;
+        for sheet_row in rows {
+            self.add_row(programmes, residents, *sheet_row)?;
         }
         Ok(())
     }
@@ -248,30 +249,31 @@ impl Marks {
     // Whether each resident has an M or U row, and each programme has an F row.
     fn is_complete(&self) -> bool
         ensures { result ≡ (list_all (λ flag.
-            flag) self.now.marked.items && list_all (λ flag. flag) self.now.filled.items) }
+            flag) self.now.marked_residents.items
+            && list_all (λ flag. flag) self.now.filled_programmes.items) }
     {
-        all_set(self.marked.as_slice()) && all_set(self.filled.as_slice())
+        all_set(self.marked_residents.as_slice()) && all_set(self.filled_programmes.as_slice())
     }
 
     // Whether a kept row agrees with the number of M rows and with the quota, if the row is an F row.
-    fn is_right(&self, programmes: &Members, kept: SheetRow, instance: &Instance) -> bool
+    fn is_right(&self, programmes: &Members, sheet_row: SheetRow, instance: &Instance) -> bool
         requires sizes { length self.now.matched_counts.items ≡ length programmes.now }
         requires quotas { length instance.now.quotas ≡ length programmes.now }
-        ensures { (texts : Fields) (residents : List ℕ) (all_rows rows_before : List Fields)
+        ensures { (name_texts : Fields) (residents : List ℕ) (all_rows rows_before : List Fields)
             (row : Fields)
-            → StandsAfter texts programmes.now residents all_rows rows_before
-            kept.place kept.mark row
+            → StandsAfter name_texts programmes.now residents all_rows rows_before
+            sheet_row.record_no sheet_row.mark row
             → IsMarked self.now all_rows all_rows
             → instance.now.quotas ≡ quotas_of all_rows
             → first_from (mark_fault all_rows) [] all_rows ≡ None
             → filled_fault all_rows rows_before row ≡ unless result
-            (DocketFault.BadSheet kept.place) }
+            (DocketFault.BadSheet sheet_row.record_no) }
     {
         let Mark::Filled {
             programme,
             filled,
             quota,
-        } = kept.mark
+        } = sheet_row.mark
         else {
             return true;
         };
@@ -292,16 +294,18 @@ impl Marks {
     ) -> Result<(), DocketFault>
         requires sizes { length self.now.matched_counts.items ≡ length programmes.now }
         requires quotas { length instance.now.quotas ≡ length programmes.now }
-        ensures { (texts : Fields) (residents : List ℕ) (all_rows : List Fields)
-            → AreSheetRows texts rows.now all_rows
-            → AreKnown texts programmes.now residents all_rows
+        ensures { (name_texts : Fields) (residents : List ℕ) (all_rows : List Fields)
+            → AreSheetRows name_texts rows.now all_rows
+            → AreKnown name_texts programmes.now residents all_rows
             → IsMarked self.now all_rows all_rows → instance.now.quotas ≡ quotas_of all_rows
             → first_from (mark_fault all_rows) [] all_rows ≡ None
             → Answers (first_from (filled_fault all_rows) [] all_rows) result }
     {
-        for kept in rows {
-            if !self.is_right(programmes, *kept, instance) {
-                return Err(DocketFault::BadSheet { place: kept.place });
+        for sheet_row in rows {
+            if !self.is_right(programmes, *sheet_row, instance) {
+                return Err(DocketFault::BadSheet {
+                    place: sheet_row.record_no,
+                });
             }
         }
         Ok(())
@@ -311,27 +315,30 @@ impl Marks {
 /// The sheet of a docket that has one, from the rows that were kept of this many records.
 pub(crate) fn sheet_of(
     alloc: Global,
-    records: u32,
+    record_count: u32,
     rows: &SheetRows,
     programmes: &Members,
     residents: &Members,
     instance: &Instance,
 ) -> Result<Assignment, DocketFault>
     requires quotas { length instance.now.quotas ≡ length programmes.now }
-    ensures sheet { IfOk result (λ sheet. (texts : Fields) (all_rows : List Fields)
-        → AreSheetRows texts rows.now all_rows
-        → AreKnown texts programmes.now residents.now all_rows
-        → instance.now.quotas ≡ quotas_of all_rows → records ≡ length all_rows
+    ensures sheet { IfOk result (λ sheet. (name_texts : Fields) (all_rows : List Fields)
+        → AreSheetRows name_texts rows.now all_rows
+        → AreKnown name_texts programmes.now residents.now all_rows
+        → instance.now.quotas ≡ quotas_of all_rows → record_count ≡ length all_rows
         → sheet ≡ placement_of all_rows) }
-    ensures fault { (texts : Fields) (all_rows : List Fields) → AreSheetRows texts rows.now all_rows
-        → AreKnown texts programmes.now residents.now all_rows
+    ensures fault { (name_texts : Fields) (all_rows : List Fields)
+        → AreSheetRows name_texts rows.now all_rows
+        → AreKnown name_texts programmes.now residents.now all_rows
         → instance.now.quotas ≡ quotas_of all_rows
-        → records ≡ length all_rows → Answers (placement_fault all_rows) result }
+        → record_count ≡ length all_rows → Answers (placement_fault all_rows) result }
 {
     let mut marks = Marks::new(alloc, programmes.len(), residents.len())?;
     marks.add_rows(rows.rows(), programmes, residents)?;
     if !marks.is_complete() {
-        return Err(DocketFault::BadSheet { place: records });
+        return Err(DocketFault::BadSheet {
+            place: record_count,
+        });
     }
     marks.check_filled(rows.rows(), programmes, instance)?;
     Ok(marks.sheet)

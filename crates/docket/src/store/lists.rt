@@ -27,7 +27,7 @@ pub(crate) enum ListKind {
 /// the long sequence. A withdrawal lists nobody, and its owner is the one withdrawn.
 #[derive(Clone, Copy)]
 pub(crate) struct KeptRow {
-    place: u32,
+    record_no: u32,
     kind: ListKind,
     owner: u32,
     start: u32,
@@ -37,10 +37,10 @@ pub(crate) struct KeptRow {
 /// A kept row with its listed names.
 #[derive(Clone, Copy)]
 pub(crate) struct ListRow<'a> {
-    pub(crate) place: u32,
+    pub(crate) record_no: u32,
     pub(crate) kind: ListKind,
     pub(crate) owner: u32,
-    pub(crate) listed: &'a [u32],
+    pub(crate) listed_names: &'a [u32],
 }
 
 /// The rank lists and withdrawals in order. Each name is kept as the number of its text.
@@ -50,7 +50,7 @@ pub(crate) struct ListRow<'a> {
 #[derive(Drop)]
 pub(crate) struct Lists {
     rows: Vec<KeptRow>,
-    names: Vec<u32>,
+    name_numbers: Vec<u32>,
     // How many new texts these rows brought.
     new_names: usize,
 }
@@ -61,10 +61,13 @@ impl Model for Lists {
 
     ghost Value = { KeptLists };
 
-    ghost view = { λ a.
-        record { entries = map (entry_at a.names.items) a.rows.items; brought = a.new_names } };
+    ghost view = { λ lists.
+        record {
+          entries = map (entry_at lists.name_numbers.items) lists.rows.items;
+          brought = lists.new_names;
+        } };
 
-    ghost invariant = { λ a. ArePartsOf a.names.items a.rows.items };
+    ghost invariant = { λ lists. ArePartsOf lists.name_numbers.items lists.rows.items };
 }
 
 // The count of new names, after the number of texts grew from `texts_before` to `texts_after`. Once there are too
@@ -87,33 +90,34 @@ fn counted_names(new_names: usize, texts_before: usize, texts_after: usize) -> u
 #[inline(always)]
 fn number_name(
     new_names: &mut usize,
-    texts: &mut Texts,
+    name_texts: &mut Texts,
     text: &[u8],
 ) -> Result<Option<usize>, AllocError>
-    ensures named { IfOk result (λ n. is_some n ≡ words.is_name text.now) }
-    ensures number { IfOk result (λ n. IfSome n (λ n. slice_get texts.new n ≡ Some text.now)) }
-    ensures texts { StartsWith texts.old texts.new }
-    ensures joined { IfOk result (λ n. IsJoined texts.old texts.new text.now) }
+    ensures named { IfOk result (λ number. is_some number ≡ words.is_name text.now) }
+    ensures number { IfOk result (λ number. IfSome number (λ number. slice_get name_texts.new number
+        ≡ Some text.now)) }
+    ensures texts { StartsWith name_texts.old name_texts.new }
+    ensures joined { IfOk result (λ number. IsJoined name_texts.old name_texts.new text.now) }
     ensures counted { OnOk result (new_names.old ≤ MOST_NAMES
-        → new_names.new + length texts.old ≡ new_names.old + length texts.new) }
+        → new_names.new + length name_texts.old ≡ new_names.old + length name_texts.new) }
     ensures cut { OnOk result (MOST_NAMES < new_names.old → new_names.new ≡ new_names.old) }
 {
-    let texts_before = texts.len();
-    let number = texts.name(text)?;
-    *new_names = counted_names(*new_names, texts_before, texts.len());
+    let texts_before = name_texts.len();
+    let number = name_texts.name(text)?;
+    *new_names = counted_names(*new_names, texts_before, name_texts.len());
     Ok(number)
 }
 
 // Adds a number at the end of the sequence.
 #[inline(always)]
-fn push_number(numbers: &mut Vec<u32>, number: usize) -> Result<(), AllocError>
-    ensures pushed { OnOk result (numbers.new.items ≡ numbers.old.items ++ number ∷ []) }
-    ensures grown { length numbers.old.items ≤ length numbers.new.items }
+fn push_number(name_numbers: &mut Vec<u32>, number: usize) -> Result<(), AllocError>
+    ensures pushed { OnOk result (name_numbers.new.items ≡ name_numbers.old.items ++ number ∷ []) }
+    ensures grown { length name_numbers.old.items ≤ length name_numbers.new.items }
 {
     let Ok(number) = u32::try_from(number) else {
         return Err(AllocError);
     };
-    numbers.push(number)?;
+    name_numbers.push(number)?;
     Ok(())
 }
 
@@ -121,49 +125,49 @@ fn push_number(numbers: &mut Vec<u32>, number: usize) -> Result<(), AllocError>
 // is a name.
 #[inline(always)]
 fn add_name(
-    numbers: &mut Vec<u32>,
+    name_numbers: &mut Vec<u32>,
     new_names: &mut usize,
-    texts: &mut Texts,
+    name_texts: &mut Texts,
     text: &[u8],
 ) -> Result<bool, AllocError>
     ensures named { IfOk result (λ named. named ≡ words.is_name text.now) }
     ensures walked { IfOk result (λ named. named ≡ true
-        → AreWalked texts.old numbers.old.items new_names.old
-        texts.new numbers.new.items new_names.new
+        → AreWalked name_texts.old name_numbers.old.items new_names.old
+        name_texts.new name_numbers.new.items new_names.new
         (text.now ∷ [])) }
-    ensures texts { StartsWith texts.old texts.new }
-    ensures grown { length numbers.old.items ≤ length numbers.new.items }
+    ensures texts { StartsWith name_texts.old name_texts.new }
+    ensures grown { length name_numbers.old.items ≤ length name_numbers.new.items }
 {
     if *new_names > MOST_NAMES {
-        return Ok(texts.known(text).is_some() || is_name(text));
+        return Ok(name_texts.known(text).is_some() || is_name(text));
     }
-    let Some(number) = number_name(new_names, texts, text)? else {
+    let Some(number) = number_name(new_names, name_texts, text)? else {
         return Ok(false);
     };
-    push_number(numbers, number)?;
+    push_number(name_numbers, number)?;
     Ok(true)
 }
 
 // Tests the names that a rank list has after the name of its owner, and keeps their numbers. Once there are too many
 // new names, the remaining names are only tested. Returns whether all of them are names.
 fn add_names(
-    numbers: &mut Vec<u32>,
+    name_numbers: &mut Vec<u32>,
     new_names: &mut usize,
-    texts: &mut Texts,
+    name_texts: &mut Texts,
     row: &ByteRecord,
 ) -> Result<bool, AllocError>
     ensures named { IfOk result (λ named.
         named ≡ list_all words.is_name (drop 2 (fields_of row.now))) }
     ensures walked { IfOk result (λ named. named ≡ true
-        → AreWalked texts.old numbers.old.items new_names.old
-        texts.new numbers.new.items new_names.new
+        → AreWalked name_texts.old name_numbers.old.items new_names.old
+        name_texts.new name_numbers.new.items new_names.new
         (drop 2 (fields_of row.now))) }
-    ensures texts { StartsWith texts.old texts.new }
-    ensures grown { length numbers.old.items ≤ length numbers.new.items }
+    ensures texts { StartsWith name_texts.old name_texts.new }
+    ensures grown { length name_numbers.old.items ≤ length name_numbers.new.items }
 {
-    for i in 2..row.len() {
-        if let Some(text) = row.get(i) {
-            if !add_name(numbers, new_names, texts, text)? {
+    for field_index in 2..row.len() {
+        if let Some(text) = row.get(field_index) {
+            if !add_name(name_numbers, new_names, name_texts, text)? {
                 return Ok(false);
             }
         }
@@ -174,14 +178,14 @@ fn add_names(
 // Adds a row whose listed names stand from `start` up to `end` in the long sequence.
 fn push_row(
     rows: &mut Vec<KeptRow>,
-    place: u32,
+    record_no: u32,
     kind: ListKind,
     owner: usize,
     start: usize,
     end: usize,
 ) -> Result<(), AllocError>
     ensures pushed { OnOk result (rows.new.items ≡ rows.old.items ++ record {
-      place = place;
+      record_no = record_no;
       kind = kind;
       owner = owner;
       start = start;
@@ -197,7 +201,7 @@ fn push_row(
         return Err(AllocError);
     };
     rows.push(KeptRow {
-        place,
+        record_no,
         kind,
         owner,
         start,
@@ -209,11 +213,11 @@ fn push_row(
 impl Lists {
     /// A store without rows.
     pub(crate) fn new(alloc: Global) -> Lists
-        ensures { (texts : Fields) → AreLists texts result [] }
+        ensures { (name_texts : Fields) → AreLists name_texts result [] }
     {
         Lists {
             rows: Vec::new(alloc),
-            names: Vec::new(alloc),
+            name_numbers: Vec::new(alloc),
             new_names: 0,
         }
     }
@@ -222,35 +226,36 @@ impl Lists {
     /// a field after the first is not a name.
     pub(crate) fn add_list(
         &mut self,
-        texts: &mut Texts,
+        name_texts: &mut Texts,
         row: &ByteRecord,
         side: Side,
-        place: u32,
+        record_no: u32,
     ) -> Result<Option<usize>, AllocError>
         ensures named { IfOk result (λ owner.
             is_some owner ≡ (words.is_name (field_of (fields_of row.now) 1)
             && list_all words.is_name (drop 2 (fields_of row.now)))) }
         ensures owner { IfOk result (λ owner.
-            IfSome owner (λ n. slice_get texts.new n ≡ Some (field_of (fields_of row.now) 1))) }
-        ensures texts { StartsWith texts.old texts.new }
+            IfSome owner (λ number. slice_get name_texts.new number
+            ≡ Some (field_of (fields_of row.now) 1))) }
+        ensures texts { StartsWith name_texts.old name_texts.new }
         ensures kept { IfOk result (λ owner. is_some owner ≡ true
-            → AddsEntry texts.old texts.new self.old self.new
-            (list_entry place side (fields_of row.now))) }
+            → AddsEntry name_texts.old name_texts.new self.old self.new
+            (list_entry record_no side (fields_of row.now))) }
     {
         let was_cut = self.new_names > MOST_NAMES;
         let mut new_names = self.new_names;
-        let Some(owner) = number_name(&mut new_names, texts, field(row, 1))? else {
+        let Some(owner) = number_name(&mut new_names, name_texts, field(row, 1))? else {
             return Ok(None);
         };
-        let names_start = self.names.len();
-        if !add_names(&mut self.names, &mut new_names, texts, row)? {
+        let names_start = self.name_numbers.len();
+        if !add_names(&mut self.name_numbers, &mut new_names, name_texts, row)? {
             return Ok(None);
         }
         if !was_cut {
-            let names_end = self.names.len();
+            let names_end = self.name_numbers.len();
             push_row(
                 &mut self.rows,
-                place,
+                record_no,
                 ListKind::Ranking(side),
                 owner,
                 names_start,
@@ -265,30 +270,31 @@ impl Lists {
     /// the name, or none if the text is not a name.
     pub(crate) fn add_withdrawal(
         &mut self,
-        texts: &mut Texts,
+        name_texts: &mut Texts,
         row: &ByteRecord,
         side: Side,
-        place: u32,
+        record_no: u32,
     ) -> Result<Option<usize>, AllocError>
         ensures named { IfOk result (λ owner.
             is_some owner ≡ words.is_name (field_of (fields_of row.now) 2)) }
         ensures owner { IfOk result (λ owner.
-            IfSome owner (λ n. slice_get texts.new n ≡ Some (field_of (fields_of row.now) 2))) }
-        ensures texts { StartsWith texts.old texts.new }
+            IfSome owner (λ number. slice_get name_texts.new number
+            ≡ Some (field_of (fields_of row.now) 2))) }
+        ensures texts { StartsWith name_texts.old name_texts.new }
         ensures kept { IfOk result (λ owner. is_some owner ≡ true
-            → AddsEntry texts.old texts.new self.old self.new
-            (gone_entry place side (fields_of row.now))) }
+            → AddsEntry name_texts.old name_texts.new self.old self.new
+            (gone_entry record_no side (fields_of row.now))) }
     {
         let was_cut = self.new_names > MOST_NAMES;
         let mut new_names = self.new_names;
-        let Some(owner) = number_name(&mut new_names, texts, field(row, 2))? else {
+        let Some(owner) = number_name(&mut new_names, name_texts, field(row, 2))? else {
             return Ok(None);
         };
         if !was_cut {
-            let names_end = self.names.len();
+            let names_end = self.name_numbers.len();
             push_row(
                 &mut self.rows,
-                place,
+                record_no,
                 ListKind::Withdrawal(side),
                 owner,
                 names_end,
@@ -306,22 +312,22 @@ impl Lists {
         self.rows.len()
     }
 
-    /// Row `k`, from 0.
-    pub(crate) fn row(&self, k: usize) -> ListRow
-        requires { k < length self.now.entries }
-        ensures { slice_get self.now.entries k ≡ Some (record {
-          place = result.place;
+    /// Row `row_index`, from 0.
+    pub(crate) fn row(&self, row_index: usize) -> ListRow
+        requires { row_index < length self.now.entries }
+        ensures { slice_get self.now.entries row_index ≡ Some (record {
+          record_no = result.record_no;
           kind = result.kind;
           owner = result.owner;
-          listed = result.listed.now;
+          listed = result.listed_names.now;
         }) }
     {
-        let row = self.rows[k];
+        let row = self.rows[row_index];
         ListRow {
-            place: row.place,
+            record_no: row.record_no,
             kind: row.kind,
             owner: row.owner,
-            listed: &self.names[row.start as usize..row.end as usize],
+            listed_names: &self.name_numbers[row.start as usize..row.end as usize],
         }
     }
 }

@@ -31,7 +31,7 @@ pub(crate) enum Mark {
 /// A row of a sheet: the number of its record, counted from 1, and what the record says.
 #[derive(Clone, Copy)]
 pub(crate) struct SheetRow {
-    pub(crate) place: u32,
+    pub(crate) record_no: u32,
     pub(crate) mark: Mark,
 }
 
@@ -48,13 +48,13 @@ impl Model for SheetRows {
 
     ghost Value = { List SheetRow };
 
-    ghost view = { λ s. s.rows.items };
+    ghost view = { λ sheet_rows. sheet_rows.rows.items };
 }
 
 impl SheetRows {
     /// No rows.
     pub(crate) fn new(alloc: Global) -> SheetRows
-        ensures { (texts : Fields) → AreSheetRows texts result [] }
+        ensures { (name_texts : Fields) → AreSheetRows name_texts result [] }
     {
         SheetRows {
             rows: Vec::new(alloc),
@@ -75,14 +75,15 @@ impl SheetRows {
         self.rows.len() > MOST_NAMES
     }
 
-    /// Keeps what the record at this place says.
-    pub(crate) fn add(&mut self, place: u32, mark: Mark) -> Result<(), AllocError>
+    /// Keeps what the record with this number says.
+    pub(crate) fn add(&mut self, record_no: u32, mark: Mark) -> Result<(), AllocError>
         requires { length self.old ≤ MOST_NAMES }
-        ensures { OnOk result ((texts : Fields) (rows : List Fields) (row : Fields)
-            → place ≡ next_place rows → MarkSays texts mark row
-            → AreSheetRows texts self.old rows → AreSheetRows texts self.new (rows ++ row ∷ [])) }
+        ensures { OnOk result ((name_texts : Fields) (rows : List Fields) (row : Fields)
+            → record_no ≡ next_place rows → MarkSays name_texts mark row
+            → AreSheetRows name_texts self.old rows
+            → AreSheetRows name_texts self.new (rows ++ row ∷ [])) }
     {
-        self.rows.push(SheetRow { place, mark })?;
+        self.rows.push(SheetRow { record_no, mark })?;
         Ok(())
     }
 }

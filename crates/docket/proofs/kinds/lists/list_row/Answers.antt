@@ -10,16 +10,16 @@ use Rattle.docket.proofs.kinds.lists.list_row.Goals as goal
 
 pub returns-in-Some-clause-kept : goal.returns-in-Some-clause-kept
 returns-in-Some-clause-kept c rows place h =
-    lists_added c.args.texts.now c.add_list.new.texts c.args.lists.now c.add_list.new.self rows (fields_of c.args.row.now) (list_entry c.args.place c.args.side (fields_of c.args.row.now))
+    lists_added c.args.name_texts.now c.add_list.new.name_texts c.args.lists.now c.add_list.new.self rows (fields_of c.args.row.now) (list_entry c.args.record_no c.args.side (fields_of c.args.row.now))
     (c.in_ok-owner.ensures.kept (rw c.in-Some.is refl)) c.in_ok-owner.ensures.texts
-    (list_entry_in (next_place rows) c.args.place c.args.side (fields_of c.args.row.now) c.requires.kind place) h
+    (list_entry_in (next_place rows) c.args.record_no c.args.side (fields_of c.args.row.now) c.requires.kind place) h
 
 pub returns-in-Some-clause-fault : goal.returns-in-Some-clause-fault
 returns-in-Some-clause-fault c =
     let wide : 2 ≤ length (fields_of c.args.row.now) = omega arith in
-    list_tested c.args.place (fields_of c.args.row.now) (is_some c.in_ok-owner.field-0) wide c.in_ok-owner.ensures.named ∙ ap (λ o. unless (is_some o) (BadName c.args.place)) c.in-Some.is
+    list_tested c.args.record_no (fields_of c.args.row.now) (is_some c.in_ok-owner.field-0) wide c.in_ok-owner.ensures.named ∙ ap (λ o. unless (is_some o) (BadName c.args.record_no)) c.in-Some.is
 
 pub returns-in-None-clause-fault : goal.returns-in-None-clause-fault
 returns-in-None-clause-fault c =
     let wide : 2 ≤ length (fields_of c.args.row.now) = omega arith in
-    inr (list_tested c.args.place (fields_of c.args.row.now) (is_some c.in_ok-owner.field-0) wide c.in_ok-owner.ensures.named ∙ ap (λ o. unless (is_some o) (BadName c.args.place)) c.in-None.is)
+    inr (list_tested c.args.record_no (fields_of c.args.row.now) (is_some c.in_ok-owner.field-0) wide c.in_ok-owner.ensures.named ∙ ap (λ o. unless (is_some o) (BadName c.args.record_no)) c.in-None.is)

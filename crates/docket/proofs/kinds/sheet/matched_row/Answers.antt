@@ -8,6 +8,6 @@ returns-clause-kept c = λ rows place h.
     let row = fields_of c.args.row.now in
     let first = c.name_in.ensures.texts in
     let second = c.name_in-2.ensures.texts in
-    let resident = text_kept c.name_in.new.texts c.name_in-2.new.texts c.in_ok-resident.resident 1 row second c.in_ok-resident.ensures.number in
-    let all = starts_more c.args.texts.now c.name_in.new.texts c.name_in-2.new.texts first second in
-    c.in_ok-add.ensures c.name_in-2.new.texts rows row place (c.requires.kind, resident, c.in_ok-programme.ensures.number) (sheet_grow c.args.texts.now c.name_in-2.new.texts c.args.sheet.now rows all h)
+    let resident = text_kept c.name_in.new.name_texts c.name_in-2.new.name_texts c.in_ok-resident.resident 1 row second c.in_ok-resident.ensures.number in
+    let all = starts_more c.args.name_texts.now c.name_in.new.name_texts c.name_in-2.new.name_texts first second in
+    c.in_ok-add.ensures c.name_in-2.new.name_texts rows row place (c.requires.kind, resident, c.in_ok-programme.ensures.number) (sheet_grow c.args.name_texts.now c.name_in-2.new.name_texts c.args.sheet_rows.now rows all h)

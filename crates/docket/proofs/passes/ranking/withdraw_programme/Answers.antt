@@ -9,21 +9,21 @@ use Rattle.docket.proofs.passes.ranking.withdraw_programme.Goals as goal
 
 pub returns-in_default-clause-fault : goal.returns-in_default-clause-fault
 returns-in_default-clause-fault c texts rows residents k h =
-    let at = programme_named texts c.args.programmes.now residents c.args.builder.now rows k c.args.row.now.place c.args.row.now.owner h ∙ (sym c.member.ensures ∙ c.in_default.is) in
-    inr (withdrawal_unnamed rows (take k rows) (row_at rows k) (programmes_of rows) c.args.row.now.place h.shown.0 (ap (λ side. names_on side rows) h.shown.1) at (h.place ∙ place_at rows k h.there))
+    let at = programme_named texts c.args.programmes.now residents c.args.builder.now rows k c.args.row.now.record_no c.args.row.now.owner h ∙ (sym c.member.ensures ∙ c.in_default.is) in
+    inr (withdrawal_unnamed rows (take k rows) (row_at rows k) (programmes_of rows) c.args.row.now.record_no h.shown.0 (ap (λ side. names_on side rows) h.shown.1) at (h.record_no ∙ place_at rows k h.there))
 
 pub returns-in-Ok-clause-ranked : goal.returns-in-Ok-clause-ranked
 returns-in-Ok-clause-ranked c texts rows residents k h =
-    let at = programme_named texts c.args.programmes.now residents c.args.builder.now rows k c.args.row.now.place c.args.row.now.owner h ∙ (sym c.member.ensures ∙ c.in-Some.is) in
+    let at = programme_named texts c.args.programmes.now residents c.args.builder.now rows k c.args.row.now.record_no c.args.row.now.owner h ∙ (sym c.member.ensures ∙ c.in-Some.is) in
     ranked_programme_gone c.args.builder.now c.withdraw_programme.new.self rows k c.in-Some.programme h.known.sound h.known.few h.there h.shown.0 h.shown.1 at h.ranked c.in-Ok.ensures.withdrawn
 
 pub returns-in-Ok-clause-fault : goal.returns-in-Ok-clause-fault
 returns-in-Ok-clause-fault c texts rows residents k h =
-    let at = programme_named texts c.args.programmes.now residents c.args.builder.now rows k c.args.row.now.place c.args.row.now.owner h ∙ (sym c.member.ensures ∙ c.in-Some.is) in
-    withdrawal_named rows (take k rows) (row_at rows k) (programmes_of rows) c.args.row.now.place c.in-Some.programme h.shown.0 (ap (λ side. names_on side rows) h.shown.1) at
+    let at = programme_named texts c.args.programmes.now residents c.args.builder.now rows k c.args.row.now.record_no c.args.row.now.owner h ∙ (sym c.member.ensures ∙ c.in-Some.is) in
+    withdrawal_named rows (take k rows) (row_at rows k) (programmes_of rows) c.args.row.now.record_no c.in-Some.programme h.shown.0 (ap (λ side. names_on side rows) h.shown.1) at
 
 pub returns-in-Err-clause-fault : goal.returns-in-Err-clause-fault
 returns-in-Err-clause-fault c texts rows residents k h =
-    let at = programme_named texts c.args.programmes.now residents c.args.builder.now rows k c.args.row.now.place c.args.row.now.owner h ∙ (sym c.member.ensures ∙ c.in-Some.is) in
+    let at = programme_named texts c.args.programmes.now residents c.args.builder.now rows k c.args.row.now.record_no c.args.row.now.owner h ∙ (sym c.member.ensures ∙ c.in-Some.is) in
     let fine = programme_stays c.args.builder.now rows k c.in-Some.programme h.known.sound h.known.few h.there h.shown.0 h.shown.1 at h.ranked in
     absurd (not_refused _ c.withdraw_programme.result _ fine c.withdraw_programme.ensures.fault c.in-Err.is)

@@ -16,7 +16,7 @@ returns-then-not-is_complete-clause-fault c = λ texts all h known quotas size.
     let blank = blank_marked c.in_ok-marks.marks texts c.args.programmes.now c.args.residents.now all _ _ c.in_ok-marks.ensures.blank c.len.ensures c.len-2.ensures known in
     let none = rw c.rows.ensures at c.in_ok-add_rows.ensures.fault in
     let marked = rw c.rows.ensures at c.in_ok-add_rows.ensures.marked in
-    let missing = missing_is c.add_rows.new.self all c.args.records (marked texts all h known blank) size in
+    let missing = missing_is c.add_rows.new.self all c.args.record_count (marked texts all h known blank) size in
     let is = rw (← c.is_complete.ensures, c.if-not-is_complete.true) at missing in
     refuses_second _ _ _ (none texts all h known blank) (refuses_first _ _ _ (inr is))
 
@@ -25,7 +25,7 @@ returns-in_err-check_filled-clause-fault c = λ texts all h known quotas size.
     let blank = blank_marked c.in_ok-marks.marks texts c.args.programmes.now c.args.residents.now all _ _ c.in_ok-marks.ensures.blank c.len.ensures c.len-2.ensures known in
     let none = rw c.rows.ensures at c.in_ok-add_rows.ensures.fault in
     let marked = rw c.rows.ensures at c.in_ok-add_rows.ensures.marked in
-    let missing = missing_is c.add_rows.new.self all c.args.records (marked texts all h known blank) size in
+    let missing = missing_is c.add_rows.new.self all c.args.record_count (marked texts all h known blank) size in
     let is = rw (← c.is_complete.ensures, c.if-not-is_complete.false) at missing in
     let fault = rw c.rows-2.ensures at c.in_err-check_filled.ensures in
     let p = err_from_is_err_and c.from_residual-in_err-check_filled.result c.from_residual-in_err-check_filled.ensures.1 in
@@ -43,7 +43,7 @@ returns-clause-fault c = λ texts all h known quotas size.
     let blank = blank_marked c.in_ok-marks.marks texts c.args.programmes.now c.args.residents.now all _ _ c.in_ok-marks.ensures.blank c.len.ensures c.len-2.ensures known in
     let none = rw c.rows.ensures at c.in_ok-add_rows.ensures.fault in
     let marked = rw c.rows.ensures at c.in_ok-add_rows.ensures.marked in
-    let missing = missing_is c.add_rows.new.self all c.args.records (marked texts all h known blank) size in
+    let missing = missing_is c.add_rows.new.self all c.args.record_count (marked texts all h known blank) size in
     let is = rw (← c.is_complete.ensures, c.if-not-is_complete.false) at missing in
     let fault = rw c.rows-2.ensures at c.in_ok-check_filled.ensures in
     no_fault _ _ (none texts all h known blank) (no_fault _ _ is

@@ -5,6 +5,6 @@ use Rattle.docket.specs.Lists.{AreWalked}
 use Rattle.docket_names.specs.Words.{is_name}
 use Rattle.docket.proofs.store.lists.add_names.Given as goal
 
-abbrev pub invariant-loop-i : goal.invariant-loop-i
-invariant-loop-i l = AreWalked l.fn.texts l.fn.numbers.items l.fn.new_names l.texts l.numbers.items l.new_names (take (l.i - 2) (drop 2 (fields_of l.row))) × (2 ≤ l.i)
-    × (list_all is_name (take (l.i - 2) (drop 2 (fields_of l.row))) ≡ true)
+abbrev pub invariant-loop-field_index : goal.invariant-loop-field_index
+invariant-loop-field_index l = AreWalked l.fn.name_texts l.fn.name_numbers.items l.fn.new_names l.name_texts l.name_numbers.items l.new_names (take (l.field_index - 2) (drop 2 (fields_of l.row))) × (2 ≤ l.field_index)
+    × (list_all is_name (take (l.field_index - 2) (drop 2 (fields_of l.row))) ≡ true)

@@ -10,8 +10,8 @@ returns-in_ok-push_row-clause-kept c named =
     let joined = rw c.field.ensures at c.in_ok-owner.ensures.joined in
     rw (← c.self.view_is, c.in_ok-push_row.ensures.pushed)
     (record {
-      kept = λ few. entry_added c.args.texts.now c.number_name.new.texts c.add_names.new.texts c.self.inside.names.items c.add_names.new.numbers.items c.self.inside.rows.items c.self.inside.new_names
-          c.number_name.new.new_names c.add_names.new.new_names (list_entry c.args.place c.args.side (fields_of c.args.row.now)) c.in-Some.owner c.len-names_start.result c.len-names_end.result c.self.invariant joined number
+      kept = λ few. entry_added c.args.name_texts.now c.number_name.new.name_texts c.add_names.new.name_texts c.self.inside.name_numbers.items c.add_names.new.name_numbers.items c.self.inside.rows.items c.self.inside.new_names
+          c.number_name.new.new_names c.add_names.new.new_names (list_entry c.args.record_no c.args.side (fields_of c.args.row.now)) c.in-Some.owner c.len-names_start.result c.len-names_end.result c.self.invariant joined number
           (c.in_ok-owner.ensures.counted few) (c.in_ok-add_names.ensures.walked c.if-not-branch.false) (omega arith) (omega arith);
       cut = λ over. absurd (omega (arith, over));
     })
@@ -19,4 +19,4 @@ returns-in_ok-push_row-clause-kept c named =
 pub returns-else-not-was_cut-clause-owner : goal.returns-else-not-was_cut-clause-owner
 returns-else-not-was_cut-clause-owner c =
     let number = rw (c.in-Some.is, c.field.ensures) at c.in_ok-owner.ensures.number in
-    text_kept c.number_name.new.texts c.add_names.new.texts c.in-Some.owner _ c.in_ok-add_names.ensures.texts number
+    text_kept c.number_name.new.name_texts c.add_names.new.name_texts c.in-Some.owner _ c.in_ok-add_names.ensures.texts number
