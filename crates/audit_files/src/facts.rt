@@ -18,7 +18,8 @@ fn put_digest(
     part: &[u8],
     bytes: &[u8],
 ) -> Result<(), AllocError>
-    ensures { OnOk result (Grows facts_text.old facts_text.new (spec.digest_row part.now bytes.now)) }
+    ensures { OnOk result
+        (Grows facts_text.old facts_text.new (spec.digest_row part.now bytes.now)) }
 {
     let digest = Sha256::digest(bytes);
     let digits = hex::encode(alloc, digest)?;

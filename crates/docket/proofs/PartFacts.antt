@@ -203,7 +203,7 @@ pub part_passed : (part : Option Part) (reading new : Reading) (rows : List Fiel
     → part_fault part reading.declared.builder.limits rows row ≡ (if is_above (most_listed new.declared.builder.limits) new.declared.listed_count then Some (TooManyListed place) else None)
 part_passed part reading new rows row place few is at own none same next =
     rw (same, part_few part reading.declared.builder.limits rows row (few_rows reading rows few is), own, none)
-    (listed_asked reading.declared.builder.limits rows row new.declared.listed_count place next.declared.listed_count (next_is reading rows place is at))
+    (listed_asked reading.declared.builder.limits rows row new.declared.listed_count place next.declared.listed (next_is reading rows place is at))
 
 -- one record more than the limit allows is refused, with the greatest number of records
 pub one_too_many : (part : Option Part) (lim : Limits) (before : List Fields) (row : Fields) (most : ℕ) → length before ≡ most_records lim → most ≡ most_records lim

@@ -53,7 +53,8 @@ fn put_withdrawn_name(
 
 // Adds the words on the places of a programme that is full.
 fn put_full_places(sentence: &mut Vec<u8>, answer: &[&[u8]]) -> Result<(), AllocError>
-    ensures { OnOk result (Grows sentence.old sentence.new (pair.full_text (fields_in answer.now))) }
+    ensures { OnOk result
+        (Grows sentence.old sentence.new (pair.full_text (fields_in answer.now))) }
 {
     let quota = field(answer, 3);
     if is(quota, b"0") {

@@ -175,7 +175,8 @@ pub(crate) fn pair_named<'a>(
 /// The rows and the directory that the words of the command `pairs` give, if they give all of them.
 pub(crate) fn pairs_named<'a>(matches: &ArgMatches<'a>) -> Option<(PublishedRows<'a>, &'a str)>
     ensures pairs { IfSome result (λ rows_and_directory.
-        GivesFolder (rows_of (found_of matches.now)) rows_and_directory.0 rows_and_directory.1.now) }
+        GivesFolder (rows_of (found_of matches.now))
+        rows_and_directory.0 rows_and_directory.1.now) }
     ensures none { result ≡ None → NamesNoFolder (rows_of (found_of matches.now)) }
 {
     let Some(rows) = rows_named(matches) else {

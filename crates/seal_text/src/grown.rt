@@ -29,7 +29,8 @@ fn put_root_row(
     leaf_count: usize,
     root: &[u8; 32],
 ) -> Result<(), AllocError>
-    ensures { OnOk result (Grows rows_text.old rows_text.new (root_row section leaf_count root.now)) }
+    ensures { OnOk result
+        (Grows rows_text.old rows_text.new (root_row section leaf_count root.now)) }
 {
     let mut number_buffer = itoa::Buffer::new();
     let count_digits = number_buffer.format(leaf_count).as_bytes();

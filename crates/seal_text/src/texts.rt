@@ -303,7 +303,8 @@ fn put_filled(
 ) -> Result<(), AllocError>
     requires { IsProgramme docket.now.instance programme }
     ensures { OnOk result
-        (Grows leaf_text.old leaf_text.new (programme_row docket.now (codes "F") programme filled)) }
+        (Grows leaf_text.old leaf_text.new
+        (programme_row docket.now (codes "F") programme filled)) }
 {
     let name = docket.programme_name(programme).as_bytes();
     let (mut filled_buffer, mut quota_buffer) = (itoa::Buffer::new(), itoa::Buffer::new());
