@@ -124,7 +124,7 @@ class Page(unittest.TestCase):
         said = []
         (block,) = re.findall(r"^```python\n(.*?)^```$", PAGE, re.M | re.S)
         # One import is all that differs, as the page says.
-        self.assertIn("the first line of the following listing is `from matching.games import HospitalResident`", PAGE)
+        self.assertIn("In code for `matching` its first line is `from matching.games import HospitalResident`", PAGE)
         self.assertTrue(block.startswith("from residency.matching import HospitalResident\n"))
         blocks = [block.replace("from residency.matching import", "from matching.games import", 1), block]
         for block in blocks:
