@@ -5,4 +5,4 @@ use Rattle.reasons_text.proofs.shown.push_shown.Given as goal
 
 abbrev pub invariant-loop-c : goal.invariant-loop-c
 invariant-loop-c l =
-    IsUtf8 (chars_rest l.c-iterator) × (string_bytes l.text ++ shown_text (chars_rest l.c-iterator) ≡ string_bytes l.fn.text ++ shown_text l.added_text)
+    IsUtf8 (chars_rest l.c-iterator) × (string_bytes l.terminal_text ++ shown_text (chars_rest l.c-iterator) ≡ string_bytes l.fn.terminal_text ++ shown_text l.added_text)
