@@ -1,5 +1,7 @@
-// A preloaded library for tests: at the end the file in THREADS_TOLD gets three numbers: the bytes of the largest stack that a
-// thread was given, and in microseconds the longest nap below THREADS_LONG and the longest of all. A nap is a wait with an end.
+// A preloaded library for tests: at the end the file in THREADS_TOLD gets seven numbers: the bytes of the largest stack that a
+// thread was given, in microseconds the longest nap below THREADS_LONG and the longest of all, how many naps of THREADS_LONG there
+// were, how many as long or longer, and how many of these ended early; and how often a thread besides the first one rested. A nap
+// is a wait that ends within a day, and a rest is one that does not.
 #define _GNU_SOURCE
 #include <dlfcn.h>
 #include <fcntl.h>
@@ -13,10 +15,12 @@
 #include <time.h>
 #include <unistd.h>
 
-static atomic_long stack, brief, longest;
+static atomic_long stack, brief, longest, firsts, longs, roused, rests;
 static long from;
 static const char *told;
 static long (*call)(long, ...);
+
+#define A_DAY 86400
 
 static void keep_largest(atomic_long *kept, long seen) {
     long before = atomic_load(kept);
@@ -44,9 +48,20 @@ long syscall(long number, ...) {
     va_end(given);
     if (number == SYS_futex && (words[1] & FUTEX_CMD_MASK) == FUTEX_WAIT && words[3]) {
         const struct timespec *wait = (const struct timespec *)words[3];
+        if (wait->tv_sec >= A_DAY) {
+            if (call(SYS_gettid) != getpid()) rests++;
+            return call(number, words[0], words[1], words[2], words[3], words[4], words[5]);
+        }
         long micros = wait->tv_sec * 1000000 + wait->tv_nsec / 1000;
         keep_largest(&longest, micros);
         if (micros < from) keep_largest(&brief, micros);
+        long ended = call(number, words[0], words[1], words[2], words[3], words[4], words[5]);
+        if (micros >= from) {
+            longs++;
+            if (micros == from) firsts++;
+            if (ended == 0) roused++;
+        }
+        return ended;
     }
     return call(number, words[0], words[1], words[2], words[3], words[4], words[5]);
 }
@@ -54,8 +69,9 @@ long syscall(long number, ...) {
 // A program with threads ends by this call, which runs no destructor.
 void _exit(int status) {
     if (told) {
-        char text[64];
-        int length = snprintf(text, sizeof text, "%ld %ld %ld\n", (long)stack, (long)brief, (long)longest);
+        char text[256];
+        int length = snprintf(text, sizeof text, "%ld %ld %ld %ld %ld %ld %ld\n", (long)stack, (long)brief, (long)longest, (long)firsts,
+                              (long)longs, (long)roused, (long)rests);
         int file = open(told, O_WRONLY | O_CREAT | O_TRUNC, 0600);
         if (file >= 0) {
             (void)!write(file, text, (size_t)length);
