@@ -1,8 +1,10 @@
 """Texts of tables that would be markup, or steer a terminal; and names that a system keeps for itself."""
+import csv
 import json
 import re
 import unicodedata
 from html.parser import HTMLParser
+from pathlib import Path
 from typing import List, Optional, Tuple
 
 from residency.office import folder
@@ -10,8 +12,10 @@ from residency.office.phrases import FOLDER
 from support import OfficeTest, office
 
 # By a member's plain name what stands after it instead of nothing: markup, quotes, what CSV and templates use, and marks of direction.
-MARKS = (' <b>&amp;"\'', " <script>alert(1)</script>", ' "><img src=x onerror=alert(1)>', " $name ${id} $$ %s {0}", " \u202eabc\u2066", " '--> <!-- ]]>")
-TEMPLATE = "<h1>$name</h1> & $id of $town\n\n$title: $programme, $choice of $listed <i>$outcome</i>\n\n$list\n"
+MARKS = (' <b>&amp;"\'', " <script>alert(1)</script>", ' "><img src=x onerror=alert(1)>', " $name ${id} $$ %s {0}, 1; 2", " \u202eabc\u2066", " '--> <!-- ]]>")
+# What no table brings in, and a text of the office's own may have: it steers a terminal, and turns a line.
+STEERS = "\x1b[2J\x9b2J\u202e"
+TEMPLATE = f"<h1>$name</h1> & $id of $town{STEERS}\n\n$title: $programme, $choice of $listed <i>$outcome</i>\n\n$list\n"
 
 
 class Elements(HTMLParser):
@@ -57,9 +61,15 @@ def is_plain(c: str) -> bool:
 
 
 # What is in a text of the office's own, in each phrase, the sender and the signature: it ends what it stands in, were it markup.
-OWN = "</script><b class='x'>&amp;\"<!--"
+OWN = f"</script><b class='x'>&amp;\"<!--{STEERS}"
 # The phrases that are no texts.
 VALUES = ("called", "plurals", "thousands", "ordinals", "months", "sorted-after")
+
+
+def shape(path: Path) -> List[Tuple[str, ...]]:
+    """How many cells each row of a table has, whatever their order."""
+    with path.open(encoding="utf-8", newline="") as file:
+        return sorted((str(len(row)),) for row in csv.reader(file))
 
 
 class Markup(OfficeTest):
@@ -77,7 +87,7 @@ class Markup(OfficeTest):
         return said.out
 
     def elements(self, marks: Tuple[str, ...], out: str, is_sealed: bool) -> List[Tuple[str, List[Tuple[str, ...]]]]:
-        """Of each page of a run, and of the folders that come of it, its elements."""
+        """Of each page of a run, and of the folders that come of it, its elements; of each table how many cells its rows have."""
         at, tables = self.folder / out, self.tables(*tables_with(marks))
         at.mkdir()
         template = self.write("letter.txt", TEMPLATE if any(marks) else re.sub("<.*?>", "", TEMPLATE))
@@ -85,7 +95,7 @@ class Markup(OfficeTest):
         title = ["--title", f"Match{''.join(mark for mark in marks[:2] if mark.isascii())}", "--date", "2026-03-20"]
         if is_sealed:
             self.said("seal", *tables, "--out", at / "sealed", "--keep", "Town", *title, *own)
-            self.said("run", at / "sealed", "--out", at / "match", *title, "--cut-offs", *own[:2])
+            self.said("run", at / "sealed", "--out", at / "match", *title, "--cut-offs", "--template", template, *own[:2])
         else:
             self.said("run", *tables, "--out", at / "match", *title, "--keep", "Town", "--template", template, *own)
         self.said("withdraw", at / "match", f"0{marks[0]}", "--out", at / "again", "--date", "2026-03-21")
@@ -94,13 +104,16 @@ class Markup(OfficeTest):
         self.said("changes", at / "again", *tables)
         self.said("settings", at / "match", "--out", at / "next.ini")
         self.said("letters", at / "match", "--out", at / "letters", *own)
+        self.said("letters", at / "match", "--preview", "1", *own)
+        self.said("why", at / "match", f"1{marks[1 % len(marks)]}", "--letter")
         self.assertRegex(self.said("verify", at / "again").splitlines()[-1], "^[0-9]+ files made again, ")
         pages = [(str(path.relative_to(at)), Elements(path.read_text(encoding="utf-8"))) for path in sorted(at.rglob("*.html"))]
         for name, page in pages:
             if "public" not in name:
                 self.assertIn("North" + "".join(filter(is_plain, marks[0])), page.text, name)
-            self.assertEqual([c for c in page.text if not is_plain(c) and c != "\n"], [], name)
-        return [(name, page.elements) for name, page in pages]
+            self.assertEqual([c for c in page.text.replace(STEERS, "") if not is_plain(c) and c != "\n"], [], name)
+        # The files of one member have names that the member's name makes.
+        return [(name, page.elements) for name, page in pages] + sorted((str(path.parent.relative_to(at)), shape(path)) for path in at.rglob("*.csv"))
 
     def test_no_text_of_a_table_becomes_markup(self) -> None:
         """Nor does one of the office's own: a title, a template, a sender, a phrase."""

@@ -17,7 +17,7 @@ from unittest import mock
 
 import support
 import test_books
-from residency.office import sentences, settings, steps, stopping, writing
+from residency.office import apart, sentences, settings, steps, stopping, writing
 from residency.office.apart import Limits
 from residency.office.faults import Cell, OfficeError, Remedy
 from residency.office.settings import Settings
@@ -255,6 +255,11 @@ class Apart(OfficeTest):
         yield "attributes", test_books.sheet(ATTRIBUTES)
         yield "texts", test_books.sheet('<row r="1"><c r="A1" t="s"><v>1</v></c></row>', TEXTS)
         yield "one text", test_books.sheet('<row r="1"><c r="A1" t="s"><v>1</v></c></row>', f"<si><t>{'text ' * 40_000_000}</t></si>")
+
+    def test_one_that_cannot_be_started(self) -> None:
+        """What the system says of it is told as it is."""
+        with mock.patch.object(apart, "Started", side_effect=OSError(11, "no more processes")), self.assertRaisesRegex(OSError, "no more processes"):
+            apart.apart(Limits(1, 1), "read", (), print)
 
     def test_bombs_end_at_a_limit(self) -> None:
         """Each is told as a fault of its table, soon, and no process is left."""

@@ -199,6 +199,9 @@ class Words(OfficeTest):
             self.assertEqual((said.status, said.out), (2, ""), words)
             self.assertRegex(said.err, r"\Aoffice: .* \(office.* --help says more\)\n\Z")
             self.assertTrue(said.err[:-1].isprintable(), said.err)
+        for begins, what in (("run a b --out c --date", "day"), ("run a b --out c --timeout", "number of seconds"), ("check a b --expect-residents", "number"),
+                             ("verify a --lists", "root")):
+            self.assertIn(f"9... (400 letters) is no {what}", office(*begins.split(), "9" * 400).err)
 
     def test_a_title_that_is_no_text(self) -> None:
         said = office("run", *self.tables(), "--out", self.folder / "out", "--title", "T\x1b[2J")

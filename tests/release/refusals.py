@@ -201,7 +201,7 @@ def gate(trial: Trial, scratch: Scratch) -> None:
     scratch.refuses("./check passed commit ", "of another commit")
     scratch.check(PART + ", not tried: mandoc")
     scratch.refuses("./check left something out: gate", "after a check that left something out")
-    scratch.check(PART, "end")
+    trial.tell("makes a release of what ./check --anew has passed" in scratch.check(PART, "end"), "what ./check says at its end without --anew")
     scratch.refuses("./check counted what an earlier check kept", "after a check without --anew")
     scratch.check()
     scratch.run("packaging/checked.py", "begin")
