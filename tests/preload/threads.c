@@ -1,7 +1,7 @@
 // A preloaded library for tests: at the end the file in THREADS_TOLD gets seven numbers: the bytes of the largest stack that a
 // thread was given, in microseconds the longest nap below THREADS_LONG and the longest of all, how many naps of THREADS_LONG there
-// were, how many as long or longer, and how many of these ended early; and how often a thread besides the first one rested. A nap
-// is a wait that ends within a day, and a rest is one that does not.
+// were, how many as long or longer, and how many of these ended early; and how often a thread rested. A nap is a wait
+// that ends within a day. A rest is one that does not, of a thread whose last nap was below THREADS_LONG.
 #define _GNU_SOURCE
 #include <dlfcn.h>
 #include <fcntl.h>
@@ -16,6 +16,7 @@
 #include <unistd.h>
 
 static atomic_long stack, brief, longest, firsts, longs, roused, rests;
+static __thread int napped_briefly;
 static long from;
 static const char *told;
 static long (*call)(long, ...);
@@ -49,12 +50,13 @@ long syscall(long number, ...) {
     if (number == SYS_futex && (words[1] & FUTEX_CMD_MASK) == FUTEX_WAIT && words[3]) {
         const struct timespec *wait = (const struct timespec *)words[3];
         if (wait->tv_sec >= A_DAY) {
-            if (call(SYS_gettid) != getpid()) rests++;
+            if (napped_briefly) rests++;
             return call(number, words[0], words[1], words[2], words[3], words[4], words[5]);
         }
         long micros = wait->tv_sec * 1000000 + wait->tv_nsec / 1000;
         keep_largest(&longest, micros);
-        if (micros < from) keep_largest(&brief, micros);
+        napped_briefly = micros < from;
+        if (napped_briefly) keep_largest(&brief, micros);
         long ended = call(number, words[0], words[1], words[2], words[3], words[4], words[5]);
         if (micros >= from) {
             longs++;
