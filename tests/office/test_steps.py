@@ -257,9 +257,10 @@ class Apart(OfficeTest):
         yield "one text", test_books.sheet('<row r="1"><c r="A1" t="s"><v>1</v></c></row>', f"<si><t>{'text ' * 40_000_000}</t></si>")
 
     def test_one_that_cannot_be_started(self) -> None:
-        """What the system says of it is told as it is."""
-        with mock.patch.object(apart, "Started", side_effect=OSError(11, "no more processes")), self.assertRaisesRegex(OSError, "no more processes"):
+        """It is told as such, with what the system says of it, and not as an output that can't be written."""
+        with mock.patch.object(apart, "Started", side_effect=OSError(11, "No more processes")), self.assertRaises(OfficeError) as told:
             apart.apart(Limits(1, 1), "read", (), print)
+        self.assertEqual((told.exception.status, sentences.said_by(told.exception)), (1, "what reads this could not be started: no more processes"))
 
     def test_bombs_end_at_a_limit(self) -> None:
         """Each is told as a fault of its table, soon, and no process is left."""

@@ -205,6 +205,8 @@ def told(limits: Limits, step: str, words: Sequence[Any]) -> Generator[Any, None
     try:
         try:
             started = Started(limits, step, words)
+        except OSError as error:
+            raise OfficeError("reader.unstarted", status=1, why=(error.strerror or str(error)).lower()) from error
         finally:
             signal.pthread_sigmask(signal.SIG_SETMASK, before)
         message = started.message()
