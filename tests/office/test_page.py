@@ -138,6 +138,9 @@ class Sample(PageTest):
                 cells = row.all("th", "td")
                 self.assertEqual([node.attributes.get("scope") for node in cells], ["row"] + [None] * (len(heads) - 1))
                 self.assertEqual([node.tag for node in cells], ["th"] + ["td"] * (len(heads) - 1))
+                # The head of numbers stands above them, at the right.
+                rights = [[(node.attributes.get("class") or "").split()[:1] == ["n"] for node in nodes] for nodes in (heads, cells)]
+                self.assertEqual(rights[0], rights[1])
 
     def test_contrast(self) -> None:
         style = self.root.all("style")[0].text()

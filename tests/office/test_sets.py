@@ -82,6 +82,7 @@ class Sets(OfficeTest):
         for word in ("Dvoøák", "Kuèera", "Zupanèiè", "Kovaèeviæ", "Vaòek", "Mãdãlina", "Erdõs", "Szûcs", "Wiœniewski", "JosŽ", "Ayþe",
                      "Yýlmaz", "Doðan", "Nu–ez", "Garc’a", "Maºa", "Íõ", "Rùžena", "Ïuriš", "Nikolìc", "Jos‚", "M¸ller", "Krejèí"):
             self.assertTrue(spelling.is_odd(word), word)
+        self.assertEqual(spelling.odd_words("Dvoøák Kuèera Zupanèiè Kovaèeviæ"), ["Dvoøák", "Kuèera", "Zupanèiè"])
         for word in ("É.", "Ø", "Å.", "Íñ.", "Zoë"):
             self.assertEqual(spelling.is_odd(word), word == "Íñ.", word)
 

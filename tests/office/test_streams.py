@@ -1,4 +1,5 @@
 """The command in a process of its own: terminals, pipes and devices of every kind, and the words of its line."""
+import json
 import os
 import shlex
 import subprocess
@@ -135,6 +136,8 @@ record 5: unknown name (cell 4: sout; is it south?)
                 self.assertEqual(
                     (said.status, said.out), (3, f"{path} has no programme and no resident: it is empty, or no docket\n")
                 )
+            said = office("lint", path, "--json")
+            self.assertEqual((said.status, json.loads(said.out)), (3, {"faults": [], "is_empty": True}))
 
     def test_many_faults_and_raw_bytes(self) -> None:
         path = self.write("docket.csv", b"Q,\x1b[31m\xff,1\n" * 5000)

@@ -36,6 +36,7 @@ sleep 0.05
 for below in $(sed -n "s/^$name://p" ../../crates.txt); do
     [ -f "../$below/out/rlib/stamp" ] || {{ echo "$below isn't proved"; exit 1; }}
 done
+[ ! -e "$tree/says" ] || cat "$tree/says"
 [ ! -e "$tree/slow" ] || {{ echo $$ > "$tree/started"; sleep 300; }}
 [ ! -e "$tree/fails.$name" ] || {{ echo "$name is NOT PROVED"; mkdir -p out/rlib; touch out/rlib/half; exit 1; }}
 [ "$1" != run ] || {{ mkdir -p out; touch "out/$name"; exit; }}
@@ -77,8 +78,8 @@ class Tree:
         os.remove(f"{self.folder}/did")
         return lines
 
-    def started(self, *words: str) -> "subprocess.Popen[str]":
-        return subprocess.Popen([f"{self.folder}/tools/build", *words], stdout=subprocess.PIPE, stderr=subprocess.PIPE, text=True,
+    def started(self, *words: str, terminal: int = subprocess.PIPE) -> "subprocess.Popen[str]":
+        return subprocess.Popen([f"{self.folder}/tools/build", *words], stdout=subprocess.PIPE, stderr=terminal, text=True,
                                 env={**os.environ, "PATH": f"{self.folder}/bin:{os.environ['PATH']}"})
 
     def builds(self, what: str, proved: List[str], status: int = 0, failing: str = "", runs: bool = True, of: str = "program") -> str:
@@ -213,6 +214,23 @@ def early(trial: Trial, tree: Tree) -> None:
     os.remove(f"{tree.folder}/waits.right")
 
 
+def on_a_terminal(trial: Trial, tree: Tree) -> None:
+    """On a terminal a line says how far a crate at work is."""
+    shutil.rmtree(f"{tree.folder}/crates/top/out")
+    tree.write("says", "so far: 3 of 7 functions\n")
+    here, there = os.openpty()
+    try:
+        with tree.started("program", terminal=there) as run:
+            run.communicate(timeout=300)
+        said = os.read(here, 100_000).decode()
+    finally:
+        os.close(here)
+        os.close(there)
+    trial.same((run.returncode, tree.did()), (0, ["begin top", "end top"]), f"a build on a terminal ({said})")
+    trial.tell("\r\x1b[K  top 3/7" in said, f"a terminal is told {said!r} of a crate at work")
+    os.remove(f"{tree.folder}/says")
+
+
 def try_all(trial: Trial, folder: str) -> None:
     tree = Tree(trial, folder)
     all_weighed(trial)
@@ -229,6 +247,7 @@ def try_all(trial: Trial, folder: str) -> None:
     trial.tell(not os.path.exists(f"{folder}/crates/other/out"), "tools/build proves a crate that the program doesn't stand on")
     trial.same(tree.builds("again", [], runs=False), "", "what a build says that has nothing to do")
     early(trial, tree)
+    on_a_terminal(trial, tree)
     for part in ("src/lib.rt", "specs/a.antt", "proofs/a.antt"):
         tree.write(f"crates/left/{part}", f"another {part}\n")
         tree.builds(f"after {part} of a crate changed", ["left", "top"])

@@ -40,7 +40,7 @@ Options:
   -w, --workers <N>        How many: 1 to 3
       --capacity <full|N>  full, or from 1 to 1024 places
       --sheet <FILE>       A sheet's file
-      --name TEXT          A name
+      --name ONE:TWO       A name
                            of one
   -h, --help               Print help
 
@@ -117,7 +117,7 @@ full, or from 1 to 1024 places
 \fB\-\-sheet\fR \fI<FILE>\fR
 A sheet\(aqs file
 .TP
-\fB\-\-name\fR \fITEXT\fR
+\fB\-\-name\fR \fIONE:TWO\fR
 A name of one
 .TP
 \fB\-h\fR, \fB\-\-help\fR
@@ -223,7 +223,7 @@ words)
             {-w,--workers}'[How many\: 1 to 3]:N:(1 2 3)' \
             --capacity'[full, or from 1 to 1024 places]:full|N:(full)' \
             --sheet'[A sheet'\''s file]:FILE:_files' \
-            --name'[A name of one]:TEXT: ' \
+            --name'[A name of one]:ONE\:TWO: ' \
             {-h,--help}'[Print help]' \
             '*:file:_files'
         ;;

@@ -232,6 +232,19 @@ def sums(trial: Trial, root: Root, folder: str) -> None:
                    f"SHA256SUMS with {what}: {status}, {err!r}")
         trial.same(root.files(), before, f"what install.sh writes by SHA256SUMS with {what}")
         shutil.rmtree(copy)
+    # A program of another machine is told by its name, though its sum is right.
+    copy = root.path(f"{root.home}/copy")
+    shutil.copytree(root.path(folder), copy)
+    put(f"{copy}/bin/residency", "\x7fELF of another machine\n", 0o755)
+    with open(f"{copy}/SHA256SUMS") as file:
+        others = [line for line in file if not line.endswith("  bin/residency\n")]
+    with open(f"{copy}/bin/residency", "rb") as data:
+        put(f"{copy}/SHA256SUMS", "".join([*others, f"{hashlib.sha256(data.read()).hexdigest()}  bin/residency\n"]))
+    before = root.files()
+    status, _, err = root.run("./install.sh --prefix ../elsewhere", f"{root.home}/copy")
+    trial.tell(status == 1 and b"residency doesn't run here" in err, f"a program of another machine: {status}, {err!r}")
+    trial.same(root.files(), before, "what install.sh writes of a program of another machine")
+    shutil.rmtree(copy)
 
 
 def told_programs(trial: Trial, root: Root, folder: str) -> None:

@@ -317,6 +317,12 @@ def elsewhere(trial: Trial, clone: Clone) -> None:
         ran = subprocess.run([f"{clone.folder}/{name}", "a word"], cwd=other, env={**clone.known, "RESIDENCY_BIN": "told"}, capture_output=True, text=True,
                              check=False)
         trial.same((ran.returncode, ran.stdout, ran.stderr), (0, f"told {program} a word\n", ""), f"./{name} that RESIDENCY_BIN tells")
+        # A program that may not be run is none.
+        os.chmod(f"{other}/told/{program}", 0o644)
+        ran = subprocess.run([f"{clone.folder}/{name}", "a word"], cwd=other, env={**clone.known, "RESIDENCY_BIN": "told"}, capture_output=True, text=True,
+                             check=False)
+        trial.same((ran.returncode, ran.stdout, ran.stderr), (1, "", f"residency: RESIDENCY_BIN is told, where there is no program {program}\n"),
+                   f"./{name} where RESIDENCY_BIN tells what may not be run")
 
 
 def seconds_of(words: List[str]) -> float:

@@ -175,6 +175,19 @@ What is trusted:
 """
 
 
+def noted(trial: Trial, folder: str) -> None:
+    """What ./check noted is read only in the form that it has now: what an older one wrote is none."""
+    tool = release_of(launchers.TOP)
+    path = f"{folder}/noted/.build/passed"
+    os.makedirs(os.path.dirname(path))
+    trial.same(tool.checked.note_of(f"{folder}/noted"), None, "the note where there is none")
+    for text, is_note in (('{"form": 2, "tree": "aa"}', True), ('{"form": 1, "tree": "aa"}', False), ('{"tree": "aa"}', False), ("[2]", False),
+                          ("form 2", False), ("", False)):
+        with open(path, "w") as file:
+            file.write(text)
+        trial.same(tool.checked.note_of(f"{folder}/noted"), {"form": 2, "tree": "aa"} if is_note else None, f"the note {text!r}")
+
+
 def told(trial: Trial, folder: str) -> None:
     """What is missing, what VERDICT says, and what was written, whole."""
     tool = release_of(launchers.TOP)
@@ -286,6 +299,7 @@ def try_all(trial: Trial, folder: str) -> None:
     maintainers(trial)
     versions(trial, f"{folder}/versions")
     c_library(trial, f"{folder}/c-library")
+    noted(trial, f"{folder}/told")
     told(trial, f"{folder}/told")
     paged(trial, f"{folder}/pages")
     listed(trial, f"{folder}/programs")
