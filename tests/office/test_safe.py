@@ -9,6 +9,7 @@ import stat
 import subprocess
 import sys
 import tempfile
+import threading
 import time
 import venv
 import zipfile
@@ -394,6 +395,18 @@ class Stops(OfficeTest):
         fcntl.flock(around, fcntl.LOCK_UN)
         with leftover.made(self.folder / f".part-{'1' * 32}"):
             self.assertFalse(left.exists())
+
+    def test_what_another_has_for_a_moment_is_waited_for(self) -> None:
+        """A folder that another command lets go of within a second is had then, and one that it keeps isn't."""
+        one, other = (os.open(self.folder, os.O_RDONLY | os.O_CLOEXEC) for _ in range(2))
+        self.addCleanup(os.close, one)
+        self.addCleanup(os.close, other)
+        self.assertTrue(leftover.is_held(one))
+        self.assertFalse(leftover.is_held(other, 2))
+        timer = threading.Timer(0.5, fcntl.flock, (one, fcntl.LOCK_UN))
+        timer.start()
+        self.assertTrue(leftover.is_held(other, leftover.MOST_TRIES))
+        timer.join()
 
     def test_a_stop_before_python_is_there(self) -> None:
         """Ctrl-C while one of the scripts starts ends it with one line: that of a clone, of a release, and of a wheel."""
