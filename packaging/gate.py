@@ -33,7 +33,8 @@ def crates_below(ancestor: int) -> Iterator[At]:
         except OSError:  # it ended meanwhile
             continue
         above[int(it)] = int(fields[1])
-        if "--crate-name" in given[:-1]:
+        # Each word ends with a zero, so the last piece is no word; and a name has to follow.
+        if "--crate-name" in given[:-2]:
             taken = sum(map(int, fields[11:13])) / os.sysconf("SC_CLK_TCK")
             found.append(At(int(it), given[given.index("--crate-name") + 1], taken))
 

@@ -29,7 +29,7 @@ def listed(top: str, *folders: str) -> List[str]:
     if not found:
         found = [os.path.relpath(f"{at}/{name}", top) for folder in folders for at, inner, names in os.walk(f"{top}/{folder}")
                  for name in names if not set(os.path.relpath(at, top).split(os.sep)) & set(IGNORED)]
-        found += [folder for folder in folders if os.path.isfile(f"{top}/{folder}")]
+        found += folders
     return sorted(path for path in found if os.path.isfile(f"{top}/{path}"))
 
 

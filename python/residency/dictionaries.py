@@ -119,7 +119,8 @@ class Reader:
                     self.told.append(f"{who} {told_name(owner)}, choice {place}: {self._unknown(other, name)}")
             elif name in seen:
                 self.told.append(f"{who} {told_name(owner)}, choice {place}: {told_name(name)} is listed twice")
-            seen.add(name if isinstance(name, str) else repr(name))
+            else:
+                seen.add(name)
 
     def withdrawn(self, who: str, names: Any) -> Tuple[str, ...]:
         """Who of a side is withdrawn, each once."""

@@ -5,7 +5,7 @@ docs/from-matching.md says which calls are the same, and which aren't.
 """
 from __future__ import annotations
 
-from typing import Any, Dict, List, Mapping, Optional, Sequence, Tuple
+from typing import Any, Dict, Iterable, List, Mapping, Optional, Sequence, Tuple
 
 from .dictionaries import told_name
 from .errors import MarketFault, NotValid, OtherOptimum
@@ -72,7 +72,7 @@ class HospitalResident:
     (True, True)
     """
 
-    def __init__(self, residents: Sequence[Player], hospitals: Sequence[Hospital], clean: bool = False) -> None:
+    def __init__(self, residents: Iterable[Player], hospitals: Iterable[Hospital], clean: bool = False) -> None:
         """The game of these players. `clean` changes nothing: a pair that isn't mutual is never matched. MarketFault for
         two players of one name, or for whatever else is wrong with them."""
         self.residents: List[Player] = list(residents)
@@ -93,7 +93,7 @@ class HospitalResident:
             residents[name].set_prefs([hospitals[each] for each in listed])
         for name, listed in market.programme_lists.items():
             hospitals[name].set_prefs([residents[each] for each in listed])
-        return cls(list(residents.values()), list(hospitals.values()), clean)
+        return cls(residents.values(), hospitals.values(), clean)
 
     def _market(self) -> Market:
         """The market of the players as they are now."""

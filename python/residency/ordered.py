@@ -111,7 +111,7 @@ def as_dictionary(value: Any) -> Dict[Any, Any]:
     """A mapping, or a Series by its index, as a dictionary; NotRead for anything else and for a key that comes twice."""
     if isinstance(value, Mapping):
         return dict(value)
-    if not (hasattr(value, "index") and hasattr(value, "items")) or getattr(value, "ndim", 1) != 1:
+    if getattr(value, "ndim", 0) != 1 or not hasattr(value, "items"):
         raise NotRead(f"{type(value).__name__} is no dictionary")
     found: Dict[Any, Any] = {}
     for key, item in value.items():

@@ -150,6 +150,16 @@ class Bombs(unittest.TestCase):
             self.refused(10_000, "names of tags and attributes", "".join(name.format(number) for number in range(20_000)))
         self.refused(1_000, "sheets", "<row/>", names='<sheet name="Table" r:id="b"/>' * 1_001)
 
+    def test_as_many_rows_columns_and_cells_as_may_be(self) -> None:
+        text = ("<row>" + "<c><v>7</v></c>" * 3 + "</row>") * 2
+        for limit, most, told in (("MOST_ROWS", 2, "the sheet has a row 2, more than 1"), ("MOST_COLUMNS", 3, "the sheet has a column 3, more than 2"),
+                                  ("MOST_CELLS", 6, "the sheet has more than 5 cells, which is no table")):
+            with mock.patch.object(sheets, limit, most):
+                self.assertEqual(sheets.sheet_of(sheet(text)).rows, [(1, ["7"] * 3), (2, ["7"] * 3)])
+            with mock.patch.object(sheets, limit, most - 1), self.assertRaises(sheets.BadBook) as caught:
+                sheets.sheet_of(sheet(text))
+            self.assertEqual(cause(Fault(caught.exception.code, "residents", values=caught.exception.values)), told)
+
     def test_columns_that_are_hidden_again(self) -> None:
         hidden = '<col min="1" max="16384" hidden="1"/>'
         self.assertEqual(len(sheets.sheet_of(sheet(hidden + "<row><c><v>1</v></c></row>")).hidden_columns), 16_384)

@@ -63,6 +63,13 @@ class Changes(OfficeTest):
             "programme North: Cem Ok new at 2, Bo Ray gone, was at 2", "resident Bo Ray is no more in the table", "resident Cem Ok is new",
             "1 list changed, of 3"])
 
+    def test_long_names_are_cut(self) -> None:
+        programme, resident = "P" * 90, "R" * 90
+        programmes = f"Programme,Places,1\n{programme},1,{resident}\nNorth,1,{resident}\n"
+        self.out = self.run_tables(programmes, f"Applicant,1,2\n{resident},North,{programme}\n", "long")
+        self.assertEqual(self.told(programmes, f"Applicant,1,2\n{resident},{programme},North\n"), [
+            f"resident {'R' * 80}... (90 letters): {'P' * 40}... (90 letters) from 2 to 1", "1 list changed, of 3"])
+
     def test_by_chance(self) -> None:
         """Of random lists each is told that is another one, with the ranks of before and now, and nobody else has moved."""
         for seed in range(12):

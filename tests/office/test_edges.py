@@ -13,8 +13,8 @@ from support import OfficeTest, office
 
 # By a member's plain name what stands after it instead of nothing: markup, quotes, what CSV and templates use, and marks of direction.
 MARKS = (' <b>&amp;"\'', " <script>alert(1)</script>", ' "><img src=x onerror=alert(1)>', " $name ${id} $$ %s {0}, 1; 2", " \u202eabc\u2066", " '--> <!-- ]]>")
-# What no table brings in, and a text of the office's own may have: it steers a terminal, and turns a line.
-STEERS = "\x1b[2J\x9b2J\u202e"
+# What no table brings in, and a text of the office's own may have: it turns a line.
+STEERS = "\u202e"
 TEMPLATE = f"<h1>$name</h1> & $id of $town{STEERS}\n\n$title: $programme, $choice of $listed <i>$outcome</i>\n\n$list\n"
 
 
@@ -140,7 +140,8 @@ class Steered(OfficeTest):
             (at / "manifest.json").write_text(json.dumps(manifest), encoding="utf-8")
         for number, words in enumerate((["compare", out, again, "--names"], ["why", out, "Ana Silva"], ["why", out, "Ana Silva", "--letter"], ["why", out, "Kim"],
                                         ["withdraw", out, "Ana Silva", "--out", self.folder / "more"], ["changes", out, *self.tables()], ["verify", out],
-                                        ["settings", out, "--out", self.folder / "own.ini"], ["letters", out, "--preview", "1"], ["next", out, "--out", self.folder / "next"])):
+                                        ["settings", out, "--out", self.folder / "own.ini"], ["letters", out, "--preview", "1"], ["next", out, "--out", self.folder / "next"],
+                                        ["why", out, "omar haddad"])):
             said = office(*words)
             self.assertEqual([c for c in said.out + said.err if not is_plain(c) and c != "\n"], [], words)
             self.assertEqual("\\x1b[2J" in said.out + said.err, number in (0, 1, 2, 4, 5, 8), words)

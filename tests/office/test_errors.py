@@ -168,6 +168,10 @@ class Told(OfficeTest):
         said = office("check", "programmes.csv", "residents.csv", "--json")
         (fault,) = json.loads(said.out)["faults"]
         self.assertEqual((said.status, fault["code"], fault["row"], fault["table"]), (3, "file.setting-value", 2, "residency-office.ini"))
+        self.write("residency-office.ini", "[match]\nsender = a\x9bb\n")
+        said = office("check", "programmes.csv", "residents.csv", "--json")
+        self.assertTrue(said.out[:-1].isprintable(), said.out)
+        self.assertEqual([fault["values"] for fault in json.loads(said.out)["faults"]], [{"letter": "\x9b"}])
 
 
 class Values(unittest.TestCase):

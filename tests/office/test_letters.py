@@ -422,7 +422,7 @@ class Kept(OfficeTest):
             (["Name", "Title", "name", "TITLE"], ["name_2", "title_2", "name_3", "title_3"]),
             (["Email", "email", "E.mail", "电话", "#"], ["email", "email_2", "email_3", "u75358bdd", "column"]),
         ):
-            self.assertEqual(list(fields_of(columns)), fields)
+            self.assertEqual(fields_of(columns), fields)
         self.assertEqual(checked_template("$email\r$name", ["Email"]), "$email\n$name")
         for text, columns in (("$email", []), ("$Email", ["Email"]), ("$phone", ["Email"])):
             with self.assertRaises(OfficeError) as told:

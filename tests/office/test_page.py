@@ -235,6 +235,9 @@ class Sample(PageTest):
             self.assertEqual(rows[programme][:3], [str(places), str(len(members)), str(places - len(members))])
             last = f"{derived.nth(self.wanted.rank(members[-1]))} of {len(self.wanted.programme_lists[programme])}"
             self.assertEqual(rows[programme][3], last if len(members) == places else "open")
+        # Of the places that are left the numbers alone stand out that are some.
+        short = [cell.text() for cell in self.section(self.root, "programmes").all("td") if cell.attributes.get("class") == "n short"]
+        self.assertEqual(short, [row[2] for row in rows.values() if row[2] != "0"])
 
 
 class Other(PageTest):

@@ -40,9 +40,10 @@ class Streams(OfficeTest):
         tables = self.tables(*pair.bytes())
         docket = self.write("docket.csv", "Q;a;1\n" * 30000)
         for words in (["check", *tables, "--all"], ["lint", docket, "--all"]):
-            said = spawn(words, shell="| head -n 1")
-            self.assertEqual(len(said.out.splitlines()), 1)
-            self.assertEqual(said.err, "")
+            said = spawn(words, shell="| head -n 1; exit ${PIPESTATUS[0]}")
+            self.assertEqual((len(said.out.splitlines()), said.err), (1, ""))
+        # The faults of a docket are more than a pipe holds.
+        self.assertEqual(said.status, 1)
         out = self.run_tables()
         os.remove(docket)
         said = spawn(["compare", str(out), str(out)], shell="| true")

@@ -101,6 +101,11 @@ class Verify(unittest.TestCase):
             "reasons: the program says what the letters say", "files: 29 as made again",
             f"29 files made again, the result, the journal of {events} events; {NO_TABLES}"])
 
+    def test_who_is_withdrawn_is_told(self) -> None:
+        again = self.at.with_name("again")
+        self.assertEqual(office("withdraw", self.at, "Kim Lee", "South Hospital", "--out", again).status, 0)
+        self.assertIn("withdrawn: programme south-hospital, resident kim-lee", office("verify", again).out.splitlines())
+
     def test_many_files_more(self) -> None:
         """The first twenty are told, and how many there are besides."""
         for number in range(23):
@@ -243,7 +248,8 @@ class Verify(unittest.TestCase):
         for text in ("", "[]", "{}", "[" * 9000, '"x"', *(json.dumps({**good, name: value}) for name, value in (
                 ("title", 1), ("date", 2), ("date", "2026-13-01"), ("withdrawn", {}), ("withdrawn", [["R"]]), ("details", "x"), ("details", [1]),
                 ("sealed", []), ("sealed", {}), ("from", 1), ("from", {}), ("template", 1), ("template", [1]), ("template", {"letter": 1}), ("template", "$nobody"), ("letter", {"sender": 1}), ("letter", {"x": "y"}), ("order", []),
-                ("cut_offs", "x"), ("tables", 1), ("sha256", 1), ("auditor", 1), ("auditor", {"key": 1})))):
+                ("cut_offs", "x"), ("tables", 1), ("sha256", 1), ("auditor", 1), ("auditor", {"key": 1}),
+                ("language", {"title": "en"}), ("language", {"own": 1})))):
             (self.at / MANIFEST).write_text(text, encoding="utf-8")
             said = office("verify", self.at)
             self.assertEqual((said.status, said.err), (4, ""), text[:80])

@@ -66,6 +66,11 @@ class Building(unittest.TestCase):
             "withdrawn: no programme is named Wesst; is it West?",
             "the withdrawn residents: a text is no list"])
         self.assertIsInstance(caught.exception, ValueError)
+        with self.assertRaises(MarketFault) as caught:
+            Market({"None": 1}, {}, {"Kim": [None, "None", ["None"], "None"]})
+        self.assertEqual(list(caught.exception.faults), [
+            "resident Kim, choice 1: no programme is named None", "resident Kim, choice 3: no programme is named ['None']",
+            "resident Kim, choice 4: None is listed twice"])
 
     def test_many_faults_are_shown_in_part(self):
         with self.assertRaises(MarketFault) as caught:

@@ -1,5 +1,6 @@
 """What has no meaning is refused, wherever it comes in: what has no order in a list's place, and numbers that are none."""
 import collections
+import email.message
 import math
 import unittest
 
@@ -152,7 +153,8 @@ class Lists(unittest.TestCase):
     def test_in_what_is_no_dictionary(self):
         for value, told in (([("North", 1)], "list is no dictionary"), ("North", "str is no dictionary"),
                             ({"North"}, "set is no dictionary"), (None, "NoneType is no dictionary"),
-                            (Frame(["North"]), "Frame is no dictionary"),
+                            (Frame(["North"]), "Frame is no dictionary"), (Array(["North"]), "Array is no dictionary"),
+                            (email.message.Message(), "Message is no dictionary"),
                             (Series([1, 2], ["North", "North"]), "its index has 'North' twice")):
             with self.subTest(value=value):
                 self.assertEqual(self.faults(lambda: Market(value, LISTS, CHOICES)), [f"the places of programmes: {told}"])

@@ -191,6 +191,7 @@ def weighed(trial: Trial, tree: Tree) -> None:
     for free, jobs in gigabytes.items():
         with mock.patch.object(tool, "free_memory", lambda free=free: free << 30), mock.patch.object(tool, "CORES", 4):
             trial.same(build.jobs_for("low", 10), jobs, f"the jobs of a small crate that is alone, with {free} gigabytes")
+            trial.same(build.jobs_for("right", 10), 1, f"the jobs of a crate while another may go, with {free} gigabytes")
             build.running = {"low": {"of": None, "run": None}}
             # Of 100, 200, 101 and 99 seconds two are more than 100.
             for nice, most in ((0, jobs), (4, min(2, jobs)), (10, 1)):

@@ -49,6 +49,9 @@ Reads a file.
 
 .dots begin it.
 
+What begins with a point, as the name of a hidden file does, is not read, as a .csv
+is.
+
 Example: the-it run a.csv
 """,
     "alone --help": """usage: alone [-h] [--form {csv,xlsx}] NAME TABLE
@@ -63,6 +66,7 @@ positional arguments:
 options:
   -h, --help            show this
   --form {csv,xlsx}     the form
+  --plain
 """}
 PAGES: Dict[str, str] = {
     "the-it": r'''.\" Made from what the-it --help says.
@@ -104,6 +108,9 @@ as.it stays
 .RE
 .PP
 \&.dots begin it.
+.PP
+What begins with a point, as the name of a hidden file does, is not read, as a
+\&.csv is.
 .TP
 \fIFILE\fR
 The table: a file\(aqs [path]
@@ -155,6 +162,9 @@ show this
 .TP
 \fB\-\-form\fR \fI{csv,xlsx}\fR
 the form
+.TP
+\fB\-\-plain\fR
+\&
 '''}
 BASH: Dict[str, str] = {
     "the-it": r'''# Completions of the-it for bash, made from its --help.
@@ -189,7 +199,7 @@ _alone() {
     ' --form') words='csv xlsx' ;;
     *)
         case $command in
-        *) [[ $word != -* ]] || words='-h --help --form' ;;
+        *) [[ $word != -* ]] || words='-h --help --form --plain' ;;
         esac
         ;;
     esac
@@ -240,6 +250,7 @@ typeset -A opt_args
 _arguments -C \
     {-h,--help}'[show this]' \
     --form'[the form]:{csv,xlsx}:(csv xlsx)' \
+    --plain'[]' \
     '*:file:_files'
 '''}
 FISH: Dict[str, str] = {
@@ -261,6 +272,7 @@ complete -c the-it -n '__fish_seen_subcommand_from help' -a 'run'
 complete -c alone -F
 complete -c alone -s h -l help -d 'show this'
 complete -c alone -l form -x -a 'csv xlsx' -d 'the form'
+complete -c alone -l plain -d ''
 '''}
 # Helps that are none, and what is said of them.
 NO_HELPS: List[Tuple[str, str]] = [

@@ -270,10 +270,37 @@ def told_programs(trial: Trial, root: Root, folder: str) -> None:
     shutil.rmtree(root.path(f"{root.home}/stand-in"))
 
 
+def says(trial: Trial, root: Root, folder: str) -> None:
+    """What install.sh says at its end: what is installed and how it goes again, and where either is wanted, what to do about the path and
+    about Python. Without the office nothing wants Python."""
+    if not os.path.exists(root.path(f"{folder}/bin/residency-office")):
+        return
+    put(root.path(f"{root.home}/old/python3"), "#!/bin/bash\nexit 1\n", 0o755)
+    without = f"{root.home}/without"
+    shutil.copytree(root.path(folder), root.path(without))
+    os.remove(root.path(f"{without}/bin/residency-office"))
+    with open(root.path(f"{folder}/SHA256SUMS")) as file:
+        put(root.path(f"{without}/SHA256SUMS"), "".join(line for line in file if not line.endswith("  bin/residency-office\n")))
+    version = root.run("bin/residency --version", folder)[1].decode().strip()
+    place = 'Put {0}/bin on the path: export PATH="{0}/bin:$PATH"'
+    python = "The office's command wants Python 3.9 or later as python3; the other programs need nothing."
+    on_path, old = 'PATH="$PATH:$PWD/../says/bin" ', f"{root.home}/old"
+    cases: List[Tuple[str, str, str, List[str]]] = [(folder, "", "", [place]), (folder, on_path, "", []), (folder, on_path, old, [python]), (folder, "", old, [place, python]),
+                                                    (without, on_path, old, []), (without, "", "", [place])]
+    for at, before, first, hints in cases:
+        with Prefix(trial, root, at, "says"):
+            status, out, err = root.run(f"{before}./install.sh --prefix ../says", at, first=first)
+        lines = ["{1} is installed in {0}; {0}/lib/residency/install.sh --uninstall takes it away.", *hints]
+        told = "".join(f"{line}\n" for line in lines).format(f"{at}/../says", version)
+        trial.same((status, err, out.decode().partition("\n\n")[2]), (0, b"", told), f"what {before}install.sh says at its end, in {os.path.basename(at)}, with {first}")
+    shutil.rmtree(root.path(without))
+    shutil.rmtree(root.path(old))
+
+
 # The parts that need no installation before them, by their names.
 PARTS: Dict[str, Callable[[Trial, Root, str], None]] = {
     "told-programs": told_programs, "beside-others": beside_others, "over-older": over_older, "modes": modes, "in-the-way": in_the_way, "failing": failing,
-    "sums": sums}
+    "sums": sums, "says": says}
 # What stands for the program in an archive of stand-ins: it answers each command with the sheet, but for its version.
 STAND_IN = """#!/bin/bash
 [ "$1" != --version ] || { echo "residency 0.0.0"; exit; }
@@ -310,7 +337,7 @@ def try_stand_ins(trial: Trial, room: str, name: str) -> None:
     """One part over an archive of stand-ins, on this machine: in a second or two, where a release takes half a minute."""
     root = roots.Here(f"{room}/{name}")
     folder = f"{root.home}/residency-0.0.0-x86_64-linux"
-    archive_of_stand_ins(folder, name == "told-programs")
+    archive_of_stand_ins(folder, name in ("told-programs", "says"))
     PARTS[name](trial, root, folder)
 
 

@@ -4,6 +4,7 @@ a package does."""
 from __future__ import annotations
 
 import contextlib
+import gzip
 import importlib.machinery
 import importlib.util
 import io
@@ -15,10 +16,12 @@ from unittest import mock
 
 import archive
 import debian
+import debs
 import launchers
 import pages
 import programs
 import refusals
+import tree
 from roots import put_script
 
 if TYPE_CHECKING:
@@ -71,6 +74,68 @@ def twice(trial: Trial) -> None:
         told = "".join(f"release: two folders gave two of {name}\n" for name in differing)
         trial.same((status, written, err.getvalue()), (int(bool(differing)), [] if differing else [MADE], told),
                    f"tools/release --twice where a second folder gives {sorted(again)}")
+    # A trial is made of what lies here, and its second folder of what is committed: both have to be the same.
+    for changed, told in (("", ""), (" M a.py", "release: the second folder gets what is committed, and the checkout has changes that aren't\n")):
+        asked: List[object] = []
+
+        def second(*given: object, asked: List[object] = asked) -> Dict[str, bytes]:
+            asked.append(given[0])
+            return MADE
+
+        err = io.StringIO()
+        with mock.patch.multiple(tool, forms=lambda *_: MADE, forms_elsewhere=second, missing_always=lambda *_: [], write=lambda *_: None), \
+                mock.patch.object(tool.tree, "state_of", lambda _, changed=changed: {**STATE, "changed": changed}), \
+                mock.patch("sys.argv", ["release", "--trial", "made", "--twice", "--maintainer", "Kim <kim@example.org>"]), \
+                contextlib.redirect_stdout(io.StringIO()), contextlib.redirect_stderr(err):
+            status = tool.main()
+        trial.same((status, asked, err.getvalue()), (int(bool(changed)), [True] * (not changed), told), f"tools/release --trial --twice with the changes {changed!r}")
+
+
+def files_below(folder: str) -> List[str]:
+    return sorted(os.path.relpath(f"{at}/{name}", folder) for at, _, names in os.walk(folder) for name in names)
+
+
+def elsewhere(trial: Trial, folder: str) -> None:
+    """A second release is made in a clone, by the same programs and what ./check noted, and is read where it was made: a trial, of which
+    ./check noted nothing, in the folder that it is told."""
+    tool = release_of(launchers.TOP)
+    put_script(f"{folder}/.build/passed", "")
+    for is_trial, where in ((False, "dist"), (True, "../../made")):
+        seen: List[object] = []
+
+        def run(words: List[str], seen: List[object] = seen, where: str = where, **_: Any) -> None:
+            """What git and the clone's own tools/release leave."""
+            copy = words[-1] if words[0] == "git" else os.path.dirname(os.path.dirname(words[1]))
+            made = os.path.normpath(f"{copy}/{where}")
+            os.makedirs(copy if words[0] == "git" else made)
+            if words[0] != "git":
+                seen.extend([[it.replace(made, "MADE") for it in words[2:]], files_below(copy)])
+                put_script(f"{made}/a.whl", "whole")
+                put_script(f"{made}/a.whl.sha256", "")
+
+        again: Dict[str, bytes] = {}
+        with mock.patch.object(tool, "TOP", folder), mock.patch.object(tool.subprocess, "run", run), contextlib.suppress(FileNotFoundError):
+            again = tool.forms_elsewhere(is_trial, {"residency": f"{folder}/.build/passed"}, "Kim <kim@example.org>")
+        wanted = [["--maintainer", "Kim <kim@example.org>", *["--trial", "MADE"] * is_trial], [*[".build/passed"] * (not is_trial), "crates/residency_cli/out/residency_cli"]]
+        trial.same((again, seen), ({"a.whl": b"whole"}, wanted), f"a second release, {'a trial' if is_trial else 'no trial'}")
+
+
+def dated(trial: Trial) -> None:
+    """The time of what is made is that of the commit, where there is one."""
+    tool = release_of(launchers.TOP)
+    for says, seconds, day, year in (("1000000000", 1_000_000_000, "Sun, 09 Sep 2001 01:46:40 -0000", 2001), ("", 0, "Thu, 01 Jan 1970 00:00:00 -0000", 1970)):
+        with mock.patch.multiple(tool, files_of=lambda *_: {"README.md": (b"x", False)}, commit_says=lambda _, says=says: says), \
+                mock.patch.object(tool.wheel, "wheel", lambda *_: b"wheel"):
+            made = tool.forms("1.2.3", None, {}, "Kim <kim@example.org>")
+        trial.same(sorted(made), ["residency-1.2.3-py3-none-manylinux_2_34_x86_64.whl", "residency-1.2.3-x86_64-linux.tar.gz", "residency_1.2.3_amd64.deb"], "the forms")
+        with tarfile.open(fileobj=io.BytesIO(made["residency-1.2.3-x86_64-linux.tar.gz"])) as tar:
+            trial.same({it.mtime for it in tar.getmembers()}, {seconds}, f"the times of an archive where git says {says!r}")
+        parts = dict(debs.members_of(made["residency_1.2.3_amd64.deb"]))
+        for name in ("control.tar.xz", "data.tar.xz"):
+            trial.same({entry.mtime for entry, _ in debs.tarred(parts[name]).values()}, {seconds}, f"the times of {name} where git says {says!r}")
+        within = {os.path.basename(path): kept for path, (_, kept) in debs.tarred(parts["data.tar.xz"]).items()}
+        trial.same((gzip.decompress(within["changelog.gz"]).decode().splitlines()[-1], within["copyright"].splitlines()[2][:15]),
+                   (f" -- Kim <kim@example.org>  {day}", b"Copyright %d " % year), f"the day of a package where git says {says!r}")
 
 
 def maintainers(trial: Trial) -> None:
@@ -271,11 +336,14 @@ def paged(trial: Trial, folder: str) -> None:
 
 
 def listed(trial: Trial, folder: str) -> None:
-    """The programs whose crates are listed, and the names that two of them share."""
+    """The programs whose crates are listed, and the names that two of them share; and the files of a tree."""
     put_script(f"{folder}/crates.txt", "# residency_why: none\nresidency_cli: one\nother: residency_audit\nresidency_seal:\n")
     trial.same(programs.listed(folder), {"residency": "residency_cli", "residency-seal": "residency_seal"}, "the programs of a list")
     trial.same([programs.called(it) for it in ("residency", "residency-national", "residency-why-national", "residency-seal")],
                ["residency", "residency", "residency-why", "residency-seal"], "how programs are called")
+    for path in ("a.txt", "b.txt", "c/d.txt", "c/out/e.txt", "c/f/__pycache__/g.pyc"):
+        put_script(f"{folder}/unknown/{path}", "")
+    trial.same(tree.listed(f"{folder}/unknown", "a.txt", "c", "none"), ["a.txt", "c/d.txt"], "the files of a tree that git doesn't know")
 
 
 def prerm(trial: Trial, folder: str) -> None:
@@ -296,6 +364,8 @@ def prerm(trial: Trial, folder: str) -> None:
 def try_all(trial: Trial, folder: str) -> None:
     modes(trial)
     twice(trial)
+    elsewhere(trial, f"{folder}/elsewhere")
+    dated(trial)
     maintainers(trial)
     versions(trial, f"{folder}/versions")
     c_library(trial, f"{folder}/c-library")

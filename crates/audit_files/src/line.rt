@@ -1,12 +1,12 @@
 //! The command line.
 ghost use Rattle.std.specs.Prelude.{◌≡◌, IfErr, IfOk, IfSome, codes, false, map};
 ghost use Rattle.clap.specs.Words.{HasKind, app_of, fault_of, found_of, matches_of as rows_in, rows_of, rule_of};
-ghost use Rattle.program_shell.specs.Flags.{flag_rule, required, word_rule};
+ghost use Rattle.program_shell.specs.Flags.{flag_rule, word_rule};
 ghost use Rattle.audit_files.specs.Line.{GivesOrder, Orders, Refuses, audit_app, program_app};
 
 use crate::order::{Order, takes_input_twice};
 use clap::{Arg, ArgAction, ArgMatches, Command};
-use program_shell::{LineFault, line_fault};
+use program_shell::{LineFault, line_fault, required_argument};
 use std::alloc::{AllocError, Global};
 use std::convert::AsStr;
 use version::VERSION;
@@ -30,22 +30,6 @@ command line; 1 where memory, reading or writing failed.
 
 Examples: residency-audit docket.csv sheet.csv
           residency-audit docket.csv sheet.csv journal.csv --facts";
-
-// The command line's argument for a file that has to be named.
-fn file_argument<'a>(
-    alloc: Global,
-    id: &'static str,
-    value_name: &'static str,
-    help: &'static str,
-) -> Arg<'a>
-    ensures rule { rule_of result ≡ required (word_rule id.entry.now) }
-    ensures own { result.global ≡ false }
-{
-    Arg::new(alloc, id)
-        .value_name(value_name)
-        .help(help)
-        .required(true)
-}
 
 // The command line's argument for the journal's file.
 fn journal_argument<'a>(alloc: Global) -> Arg<'a>
@@ -88,13 +72,13 @@ fn command<'a>(alloc: Global) -> Result<Command<'a>, AllocError>
     ensures { IfOk result (λ command. app_of command ≡ audit_app) }
 {
     let command = program(alloc)?;
-    let command = command.arg(file_argument(
+    let command = command.arg(required_argument(
         alloc,
         "docket",
         "DOCKET",
         "The file with the quotas, the lists and the withdrawals",
     ))?;
-    let command = command.arg(file_argument(
+    let command = command.arg(required_argument(
         alloc,
         "sheet",
         "SHEET",

@@ -1,9 +1,9 @@
 //! How a program's commands are described to the command line's parser.
-ghost use Rattle.std.specs.Prelude.{◌≡◌, IfOk, true};
-ghost use Rattle.clap.specs.Words.{app_of, new_app, with_subcommand};
-ghost use Rattle.program_shell.specs.Flags.{of_commands};
+ghost use Rattle.std.specs.Prelude.{◌≡◌, IfOk, false, true};
+ghost use Rattle.clap.specs.Words.{app_of, new_app, rule_of, with_subcommand};
+ghost use Rattle.program_shell.specs.Flags.{of_commands, required, word_rule};
 
-use clap::Command;
+use clap::{Arg, Command};
 use std::alloc::{AllocError, Global};
 
 /// The description of a command: its name, its usage and its help.
@@ -45,4 +45,20 @@ pub fn with_command<'a>(
         ≡ with_subcommand (app_of program.entry) (app_of command.entry).top) }
 {
     program.subcommand(command)
+}
+
+/// The description of a word that a command line has to have.
+pub fn required_argument<'a>(
+    alloc: Global,
+    id: &'static str,
+    value_name: &'static str,
+    help: &'static str,
+) -> Arg<'a>
+    ensures rule { rule_of result ≡ required (word_rule id.entry.now) }
+    ensures own { result.global ≡ false }
+{
+    Arg::new(alloc, id)
+        .value_name(value_name)
+        .help(help)
+        .required(true)
 }

@@ -10,7 +10,7 @@ mod load;
 mod status;
 mod words;
 
-pub use commands::{described, with_command, with_commands};
+pub use commands::{described, required_argument, with_command, with_commands};
 pub use fault::{LineFault, UsageFault, line_fault};
 pub use load::{
     Unread, is_input, lent, load_file, load_if, load_input, load_path, load_path_if, refuse_unread,

@@ -1,12 +1,11 @@
 //! The commands that compare receipts.
-ghost use Rattle.std.specs.Prelude.{◌≡◌, ◌⊎◌, IfOk, IfSome, None, codes, false};
-ghost use Rattle.clap.specs.Words.{app_of, first_of, found_of, rows_of, rule_of};
-ghost use Rattle.program_shell.specs.Flags.{required, word_rule};
+ghost use Rattle.std.specs.Prelude.{◌≡◌, ◌⊎◌, IfOk, IfSome, None, codes};
+ghost use Rattle.clap.specs.Words.{app_of, first_of, found_of, rows_of};
 ghost use Rattle.seal_text.specs.Line.{GivesFolder, GivesPair, GivesRows, GivesTwo, NamesNoFolder, NamesNoPair, comparing_app, pair_app, pairs_app};
 
 use crate::line::option_with_value;
-use clap::{Arg, ArgMatches, Command};
-use program_shell::described;
+use clap::{ArgMatches, Command};
+use program_shell::{described, required_argument};
 use std::alloc::{AllocError, Global};
 
 const PAIR_HELP: &str =
@@ -51,22 +50,6 @@ pub struct ReceiptPaths<'a> {
     pub resident: &'a str,
     /// The path of the programme's receipt.
     pub programme: &'a str,
-}
-
-// The description of a word that has to be given.
-fn required_argument<'a>(
-    alloc: Global,
-    id: &'static str,
-    value_name: &'static str,
-    help: &'static str,
-) -> Arg<'a>
-    ensures rule { rule_of result ≡ required (word_rule id.entry.now) }
-    ensures own { result.global ≡ false }
-{
-    Arg::new(alloc, id)
-        .value_name(value_name)
-        .help(help)
-        .required(true)
 }
 
 // The description of a command that compares, with its options for the roots.

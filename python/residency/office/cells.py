@@ -1,12 +1,11 @@
 """The rows of a table's text: what parts its cells, found from the whole file, and cells that are broken."""
 import re
-import unicodedata
 from dataclasses import dataclass
 from typing import Callable, Dict, Iterable, Iterator, List, Optional, Sequence, Tuple
 
 from ..text import BadQuotes, rows, tidy
 from .faults import Faults, OfficeError, Values
-from .text import LINE_END
+from .text import LINE_END, no_letter
 
 DELIMITERS = {",": "commas", ";": "semicolons", "\t": "tabs", "|": "bars"}
 WORDS = {"comma": ",", "semicolon": ";", "tab": "\t", "bar": "|", "\\t": "\t"}
@@ -144,6 +143,6 @@ class Cells:
             return "row.tab", {"text": text}
         if "\ufffd" in text and number == 1:
             return "row.lost-letter", {"text": text}
-        if any(unicodedata.category(c) in ("Cc", "Cs", "Co", "Cn") and c not in "\r\n" for c in inside):
+        if no_letter(inside, "\r\n\u2028\u2029"):
             return "row.no-letter", {"text": text}
         return None

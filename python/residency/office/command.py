@@ -1,6 +1,5 @@
 """The office's command: checks two tables or a docket, runs a match into a folder, withdraws members, compares runs."""
 import argparse
-import json
 import os
 import sys
 import threading
@@ -17,7 +16,7 @@ from .apart import Progress
 from .cells import DELIMITERS, known_delimiter
 from .faults import MOST_OF_PATH, MOST_SHOWN, Faults, FaultsError, OfficeError, column_letters, counted, shown
 from .headings import Words
-from .letters import OTHERS, PROGRAMME, Templates, checked_templates
+from .letters import OTHERS, PROGRAMME, Templates, checked_template
 from .line import parser
 from .outcome import UNMATCHED, Details, Standing
 from .phrases import Language, languages, read_phrases
@@ -26,7 +25,7 @@ from .sentences import as_dict, cause, errors_as_dicts, how, line_of, note, repo
 from .settings import TABLES, Settings
 from .steps import Given, Look, Read, TablesError
 from .tables import Table
-from .telling import complain, failed, say, silence
+from .telling import as_json, complain, failed, say, silence
 from .text import at_most, bytes_of, decoded, known_encoding, title_of
 from .tree import Roots
 
@@ -90,7 +89,7 @@ def dispatch(words: Optional[Sequence[str]]) -> int:
         return tables_at_fault(error, given.all, complain, "nothing was written")
     except OfficeError as error:
         if given.command in QUIET and given.json:
-            say(json.dumps({"faults": errors_as_dicts(error)}, ensure_ascii=False))
+            say(as_json({"faults": errors_as_dicts(error)}))
         raise
 
 
@@ -189,7 +188,7 @@ def read_as_json(read: Read) -> str:
               for table in read.tables]
     found = {"tables": tables, "places": sum(places_of.values()), "counts": {kind: count for kind, count in read.faults.counts.items() if count},
              "faults": [as_dict(fault, places) for fault in read.faults.every()], "notes": [as_dict(table_note, places) for table_note in read.notes()]}
-    return json.dumps(found, ensure_ascii=False)
+    return as_json(found)
 
 
 def check(given: argparse.Namespace) -> int:
@@ -273,7 +272,7 @@ def tell_docket(data: bytes, label: str, given: argparse.Namespace) -> int:
     count, is_over = 0, False
     if given.json:
         found = [fault.to_dict() for fault in steps.lint(data)]
-        say(json.dumps({"faults": found, "is_empty": not is_docket(data)}, ensure_ascii=False))
+        say(as_json({"faults": found, "is_empty": not is_docket(data)}))
         return 3 if found or not is_docket(data) else 0
     for fault in steps.lint(data):
         count += 1
@@ -354,12 +353,12 @@ def template_of(path: Optional[str], columns: Sequence[str]) -> Templates:
     """A template's file, or a folder's by the standings that they are for, tried before anything else is done; `columns` are those
     that are kept."""
     if path is None or not os.path.isdir(path):
-        return checked_templates(None if path is None else text_of(path), columns)
+        return None if path is None else checked_template(text_of(path), columns, path)
     names = [*(standing.key for standing in Standing), OTHERS, PROGRAMME]
     found = {name: os.path.join(path, f"{name}.txt") for name in names if os.path.exists(os.path.join(path, f"{name}.txt"))}
     if not found:
         raise OfficeError("template.none", 3, path, files=[f"{name}.txt" for name in names])
-    return checked_templates({name: text_of(template) for name, template in found.items()}, columns)
+    return {name: checked_template(text_of(template), columns, template) for name, template in found.items()}
 
 
 def tables_of(given: argparse.Namespace, chosen: Settings, before: Optional[rounds.Before] = None) -> Tuple[Sequence[Table], Market]:

@@ -10,6 +10,7 @@ from typing import Any, Dict, Iterable, Iterator, List, Set, Union
 
 from . import leftover, stopping
 from .faults import OfficeError
+from .text import refuse_odd
 from .writing import PRIVATE, SHARED, cause_of, draft_of, refuse, umask, write_new
 
 DOCKET, KEY, SHEET, JOURNAL, PAGE = "docket.csv", "key.csv", "sheet.csv", "journal.csv", "page.html"
@@ -139,7 +140,7 @@ class Draft:
         private = self.private and part != PUBLIC or part in self.owners
         if part != name and part not in self.folders:
             self.folders.add(part)
-            (self.path / part).mkdir(mode=0o700 if private else 0o777, exist_ok=True)
+            (self.path / part).mkdir(mode=0o700 if private else 0o777)
         self.sums[name] = write_new(f"{self.path}/{name}", data, PRIVATE if private else SHARED)
         return self.sums[name]
 
@@ -190,6 +191,9 @@ class Results:
             raise OfficeError("folder.none", 1, self.at)
         try:
             manifest = json.loads(self.read(MANIFEST).decode("utf-8"))
+            refuse_odd(manifest if isinstance(manifest, dict) else {}, str(self.path / MANIFEST))
+            # Half of a surrogate pair, which JSON can write, is no text.
+            json.dumps(manifest, ensure_ascii=False).encode("utf-8")
         except (ValueError, RecursionError):
             manifest = None
         if not isinstance(manifest, dict) or not isinstance(manifest.get("sha256"), dict):

@@ -12,11 +12,9 @@ from .faults import OfficeError
 from .outcome import Became, Lists, Outcome, Standing, by_name, called
 from .page import COLOURS, LETTERS_STYLE, About, bdi, document, lang
 from .phrases import NEW_LINE, Phrases, languages, named
-from .text import LINE_END
+from .text import LINE_END, TEXTS, no_letter
 from .tree import Roots
 
-# What settings say of every letter, where they do; a mark of a new line parts its lines.
-TEXTS = ("sender", "appeals", "signature")
 # Templates of an office: one text, or by a standing each one's, with one for all others.
 Templates = Union[str, Mapping[str, str], None]
 OTHERS, PROGRAMME = "letter", "programme"
@@ -35,7 +33,7 @@ FIELD = re.compile(r"\$(?:(\$)|(\w+)|\{(\w+)\})")
 TOGETHER = (Became.FULL, Became.NO_PLACES, Became.NOT_RANKED, Became.IT_WITHDREW)
 
 
-def fields_of(columns: Sequence[str]) -> Tuple[str, ...]:
+def fields_of(columns: Sequence[str]) -> List[str]:
     """The fields of the columns that are kept: `$email` for Email, in plain small letters, unlike one another and FIELDS."""
     made: List[str] = []
     for heading in columns:
@@ -46,34 +44,25 @@ def fields_of(columns: Sequence[str]) -> Tuple[str, ...]:
             count += 1
             free = f"{stem}_{count}"
         made.append(free)
-    return tuple(made)
+    return made
 
 
-def checked_templates(own: Templates, columns: Sequence[str] = ()) -> Templates:
-    """The templates of an office, each checked. OfficeError for one at fault."""
-    if isinstance(own, Mapping):
-        return {name: checked_template(text, columns) for name, text in own.items()}
-    return None if own is None else checked_template(own, columns)
-
-
-def refuse_unsalted(text: str) -> None:
-    """OfficeError for a template of sealed letters that names the docket's hash."""
-    for number, line in enumerate(LINE_END.split(text), 1):
-        if any(UNSALTED in found for found in re.findall(r"\$(?:\$|(\w+)|\{(\w+)\})", line)):
-            raise OfficeError("template.unsalted", 3, "", "template", number, text=UNSALTED)
-
-
-def checked_template(text: str, columns: Sequence[str] = ()) -> str:
-    """A letter's template, with plain line ends; `columns` are those that are kept. OfficeError for one without a text, or a
-    `$` that names none of the fields."""
+def checked_template(text: str, columns: Sequence[str] = (), at: str = "", is_sealed: bool = False) -> str:
+    """A letter's template, with plain line ends; `columns` are those that are kept, and `at` is its file. OfficeError for one without a
+    text, a `$` that names none of the fields, or in sealed letters the docket's hash, or a character that is no letter, but for tabs."""
     known = (*FIELDS, *fields_of(columns))
     lines = LINE_END.split(text)
+    for number, line in enumerate(lines, 1):
+        if letter := no_letter(line, "\t\u2028\u2029"):
+            raise OfficeError("template.no-letter", 3, at, "template", number, letter=letter)
+        for found in re.finditer(r"\$(?:(\$)|(\w+)|\{(\w+)\}|)", line):
+            name = found.group(2) or found.group(3)
+            if not found.group(1) and name not in known:
+                raise OfficeError("template.field", 3, "", "template", number, text=found.group(0), fields=known)
+            if is_sealed and name == UNSALTED:
+                raise OfficeError("template.unsalted", 3, "", "template", number, text=UNSALTED)
     if not text.strip():
         raise OfficeError("template.empty", 3, "", "template")
-    for number, line in enumerate(lines, 1):
-        for found in re.finditer(r"\$(?:(\$)|(\w+)|\{(\w+)\}|)", line):
-            if not found.group(1) and (found.group(2) or found.group(3)) not in known:
-                raise OfficeError("template.field", 3, "", "template", number, text=found.group(0), fields=known)
     return "\n".join(lines)
 
 
@@ -139,10 +128,7 @@ class Letters:
         fields = ("sender", "day", "name", "outcome", "list", "", "sealed", "appeals", "signature")
         made = "\n\n".join(f"${name}" if name else said for name in fields if has.get(name, True))
         own = self.own_of(kind)
-        text = checked_template(f"{made}\n" if own is None else own, self.outcome.columns)
-        if self.about.roots is not None:
-            refuse_unsalted(text)
-        return text
+        return checked_template(f"{made}\n" if own is None else own, self.outcome.columns, is_sealed=self.about.roots is not None)
 
     def same_fields(self, phrases: Phrases) -> Dict[str, str]:
         """What the fields of the template stand for that are the same in all letters of a language."""

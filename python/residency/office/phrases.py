@@ -12,10 +12,11 @@ from pathlib import Path
 from typing import Any, Callable, Dict, Iterable, Iterator, List, Mapping, Optional, Set, Tuple
 
 from .faults import Faults, FaultsError, OfficeError
+from .text import own_lines
 
 FOLDER = Path(__file__).with_name("phrases")
 ENGLISH = "en"
-REMARK, NEW_LINE = "#", " | "
+NEW_LINE = " | "
 VALUE = re.compile(r"\{(\w+)(?::([^{}]*))?\}")
 # A phrase's own words, and after each but the last a value's name and its forms, if any.
 cut = lru_cache(1 << 12)(VALUE.split)
@@ -107,12 +108,11 @@ class Phrases:
 def lines_of(text: str, label: str, known: Optional[Mapping[str, str]], faults: Faults) -> Iterator[Tuple[int, str, str]]:
     """Each phrase of a file with its line."""
     seen: Set[str] = set()
-    for line, words in enumerate(text.lstrip("\ufeff").splitlines(), 1):
-        key, mark, said = (part.strip() for part in words.partition("="))
+    for line, key, mark, said in own_lines(text, label, faults):
         what = ("file.phrase-line" if not mark else "file.phrase-unknown" if key not in (known or {key}) else "file.phrase-twice" if key in seen else "")
-        if words.strip() and not key.startswith(REMARK) and what:
+        if what:
             faults.tell(what, label, line, None, {"name": key})
-        elif words.strip() and not key.startswith(REMARK):
+        else:
             yield line, key, said
         seen.add(key)
 
@@ -191,7 +191,7 @@ class Language:
     column: str = ""
 
     def phrases(self) -> Phrases:
-        return named(self.name) if self.own is None else read_phrases(self.own, "phrases")
+        return named(self.name) if self.own is None else read_phrases(self.own, "manifest.json: phrases")
 
     def entry(self) -> Dict[str, Any]:
         """What a manifest keeps of it; nothing of English for all."""

@@ -13,10 +13,10 @@ from ..program import run_program
 from . import auditor, compare, folder, running
 from .faults import OfficeError
 from .folder import Draft, digest
-from .letters import TEXTS, checked_templates
 from .outcome import Details, outcome_of
 from .phrases import Language
 from .running import Matched, Wishes
+from .text import TEXTS, refuse_odd
 from .tree import Roots
 
 # As many ways from a folder before to this one are tried, the likely ones first.
@@ -75,10 +75,9 @@ def fault_of(manifest: Any) -> str:
 
 
 def wishes_of(manifest: Manifest, columns: Tuple[str, ...], timeout: float) -> Wishes:
-    """What was wished of a run, as its manifest has it. ValueError for a day that is none; OfficeError for such a template."""
-    template = manifest.get("template")
-    checked_templates(template, columns)
-    return Wishes(manifest["title"], date.fromisoformat(manifest["date"]), manifest.get("order", "name"), template, timeout,
+    """What was wished of a run, as its manifest has it. ValueError for a day that is none; OfficeError for such a text of its own."""
+    refuse_odd(manifest)
+    return Wishes(manifest["title"], date.fromisoformat(manifest["date"]), manifest.get("order", "name"), manifest.get("template"), timeout,
                   manifest.get("cut_offs", False), texts=manifest.get("letter", {}), language=language_of(manifest, columns))
 
 
@@ -123,7 +122,7 @@ class Remade(Draft):
     """The files of a folder that is made again."""
 
     def __init__(self, room: Path, source: Source, claimed: Dict[str, str]) -> None:
-        super().__init__(room, private=True)
+        super().__init__(room)
         self.source, self.claimed = source, claimed
         self.files: Dict[str, bytes] = {}
 

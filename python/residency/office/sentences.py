@@ -177,6 +177,7 @@ ERRORS: Dict[str, Sentence] = {
     **TEXTS["ERRORS"],
     "template.field": lambda values: f"the template, line {values['row']}: {Told(values['text'])} is none of ${', $'.join(values['fields'])}; "
                                      "write $$ for the sign itself",
+    "template.no-letter": lambda values: f"{Told(values['at'] or 'the template', MOST_OF_PATH)}, line {values['row']}: the character {Told(values['letter'])} is no letter",
     "member.several": several,
     "member.nobody": nobody,
     "member.other-side": other_side,
@@ -205,7 +206,7 @@ def said_by(error: Exception) -> str:
         return str(error)
     fault = error.fault
     said = as_sentence(ERRORS[fault.code], {**fault.values, "at": error.at, "table": fault.table, "row": fault.row})
-    return f"{shown(error.at, MOST_OF_PATH)}: {said}" if error.at and fault.kind == "member" else said
+    return f"{shown(error.at, MOST_OF_PATH)}: {said}" if error.at and fault.kind in ("member", "setting") else said
 
 
 def said_otherwise(error: OfficeError, faults: Sequence[Fault], all_of_them: bool) -> str:
@@ -226,7 +227,7 @@ def place(fault: Fault) -> str:
     """Where a fault shows first."""
     if fault.row is None:
         return fault.table
-    if fault.code.startswith(("file.setting", "file.phrase")):
+    if fault.code.startswith(("file.setting", "file.phrase", "file.no-letter")):
         return f"{fault.table}, line {fault.row}"
     column = fault.column
     return f"{fault.table}, row {fault.row}" + (f", cell {column} ({column_letters(column)}{fault.row})" if column is not None else "")

@@ -10,12 +10,11 @@ from .cells import WORDS, known_delimiter
 from .faults import Faults, FaultsError, OfficeError
 from .headings import HEADING, ROLES, plain
 from .languages import sections
-from .text import known_encoding
+from .text import TEXTS, known_encoding, own_lines
 
 NAME = "residency-office.ini"
 BOTH, MATCH = "tables", "match"
 TABLES = ("programmes", "residents")
-REMARK = "#"
 
 
 @dataclass
@@ -47,7 +46,7 @@ class Settings:
 
     def texts(self) -> Dict[str, str]:
         """What is said of every letter."""
-        return {name: value for name, value in (("sender", self.sender), ("appeals", self.appeals), ("signature", self.signature)) if value}
+        return {name: getattr(self, name) for name in TEXTS if getattr(self, name)}
 
     def kept(self) -> List[str]:
         """The columns of residents to keep."""
@@ -103,20 +102,17 @@ def section_of(setting: Setting) -> Tuple[str, ...]:
 def lines_of(text: str, label: str, faults: Faults) -> Iterator[Tuple[int, str, str, str]]:
     """Each setting of a file with its line, its section, its name and its value."""
     section = ""
-    for line, words in enumerate(text.lstrip("\ufeff").splitlines(), 1):
-        words = words.strip()
-        name, mark, value = (part.strip() for part in words.partition("="))
-        if words.startswith("[") and words.endswith("]"):
-            section = words[1:-1].strip()
+    for line, name, mark, value in own_lines(text, label, faults):
+        if not mark and name.startswith("[") and name.endswith("]"):
+            section = name[1:-1].strip()
             if section not in SECTIONS:
                 faults.tell("file.setting-section", label, line, None, {"section": section, "sections": SECTIONS})
-        elif words and not words.startswith(REMARK):
-            if not mark:
-                faults.tell("file.setting-line", label, line, None, {"text": words})
-            elif not section:
-                faults.tell("file.setting-nowhere", label, line, None, {"name": name, "sections": SECTIONS})
-            elif section in SECTIONS:
-                yield line, section, name, value
+        elif not mark:
+            faults.tell("file.setting-line", label, line, None, {"text": name})
+        elif not section:
+            faults.tell("file.setting-nowhere", label, line, None, {"name": name, "sections": SECTIONS})
+        elif section in SECTIONS:
+            yield line, section, name, value
 
 
 def read_settings(text: str, label: str) -> Settings:

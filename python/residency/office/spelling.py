@@ -50,7 +50,7 @@ def is_odd(word: str) -> bool:
 
 def goes_together(plain: str, beyond: Set[str]) -> bool:
     """Whether some language has all of these letters in one word."""
-    if beyond & NORDIC and not beyond <= BESIDE_NORDIC:
+    if beyond & NORDIC and beyond - BESIDE_NORDIC:
         return False
     if beyond & set("šž") and beyond & NOT_BESIDE_SLAVIC:
         return False

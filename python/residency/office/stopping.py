@@ -90,7 +90,7 @@ def stoppable() -> Iterator[None]:
 
 def remove(path: Path) -> None:
     """Removes a file or a folder, where it is there."""
-    if path.is_dir() and not path.is_symlink():
+    if path.is_dir():
         shutil.rmtree(path, ignore_errors=True)
     else:
         try:

@@ -140,7 +140,7 @@ class Members:
         if number > self.last + 1:
             self.gaps_before += 1
         self.last = number
-        if cells == 1 and columns.width > 1 and len(row[0]) > 1:
+        if columns.width > 1:
             other = other_mark(row, self.table.rows.delimiter)
             if other is not None:
                 rows = self.table.rows

@@ -1,7 +1,9 @@
 """What the command says: lines on standard output, and complaints on standard error, if anybody has these."""
+import json
 import os
 import re
 import sys
+from typing import Any
 
 # What steers a terminal, or turns the direction of a line, but for the end of one.
 STEERS = re.compile("[\x00-\x09\x0b-\x1f\x7f-\x9f\u2028-\u202e\u2066-\u2069]")
@@ -40,3 +42,8 @@ def say(line: str) -> None:
     if sys.stdout is None:
         raise OSError(0, "it is closed")
     print(STEERS.sub(lambda found: repr(found[0])[1:-1], line))
+
+
+def as_json(value: Any) -> str:
+    """A value as one line of JSON, of which nothing steers the terminal."""
+    return STEERS.sub(lambda found: f"\\u{ord(found[0]):04x}", json.dumps(value, ensure_ascii=False))

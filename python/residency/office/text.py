@@ -1,8 +1,9 @@
-"""The text of a saved table: its bytes, the character set that they are in, and what is broken in it."""
+"""The text of a saved table: its bytes, the character set that they are in, and what is broken in it; and texts of an office's own."""
 import codecs
 import re
+import unicodedata
 from dataclasses import dataclass, field
-from typing import IO, Callable, List, Optional, Tuple
+from typing import IO, Any, Callable, Dict, Iterator, List, Optional, Tuple
 
 from ..text import decode
 from .faults import Fault, Faults, OfficeError, Remedy
@@ -17,6 +18,8 @@ OF_UTF8 = re.compile(rb"[\xc2-\xdf][\x80-\xbf]|[\xe0-\xef][\x80-\xbf]{2}|[\xf0-\
 OTHER_SETS = tuple(OWN)
 MOST_SETS = 4
 LINE_END = re.compile(r"\r\n|\r|\n")
+# What begins a line that says nothing, and the settings that are said of every letter.
+REMARK, TEXTS = "#", ("sender", "appeals", "signature")
 
 
 @dataclass
@@ -33,6 +36,33 @@ class Text:
 
 def title_of(encoding: str) -> str:
     return TITLES.get(encoding.lower().replace("_", "-"), encoding)
+
+
+def no_letter(text: str, but: str = "") -> str:
+    """The first character of a text that is no letter, such as one that steers a terminal or ends a line, but for some; or no text."""
+    kinds = ("Cc", "Cs", "Co", "Cn", "Zl", "Zp")
+    return "" if text.isprintable() else next((c for c in text if c not in but and unicodedata.category(c) in kinds), "")
+
+
+def own_lines(text: str, label: str, faults: Faults) -> Iterator[Tuple[int, str, str, str]]:
+    """The lines of a file of an office's own, but for blank ones and remarks: each one's number, what stands before its first `=`, that
+    sign, and what stands after it. A character that is no letter is a fault, in a remark too; a tab is one within what is said alone."""
+    for number, line in enumerate(LINE_END.split(text.lstrip("\ufeff")), 1):
+        name, mark, said = (part.strip() for part in line.partition("="))
+        is_remark = name.startswith(REMARK)
+        if letter := no_letter(line, "\t") or no_letter("" if is_remark else said):
+            faults.tell("file.no-letter", label, number, None, {"letter": letter})
+        if (name or mark) and not is_remark:
+            yield number, name, mark, said
+
+
+def refuse_odd(said: Dict[str, Any], at: str = "") -> None:
+    """OfficeError for a text of an office's own with a character that is no letter, among settings by their names, or in a manifest."""
+    reading = said.get("reading")
+    parts = (said, said.get("letter"), reading.get("match") if isinstance(reading, dict) else None)
+    for name, text in ((name, part.get(name)) for part in parts if isinstance(part, dict) for name in ("title", *TEXTS)):
+        if isinstance(text, str) and (letter := no_letter(text)):
+            raise OfficeError("setting.no-letter", 3, at, name=name, letter=letter)
 
 
 def bytes_of(path: str) -> bytes:

@@ -24,7 +24,7 @@ from ..sentences import faults_at_desk, said_by
 from ..settings import TABLES, from_values
 from ..steps import TablesError
 from ..tables import Given
-from ..text import MOST_BYTES
+from ..text import MOST_BYTES, refuse_odd
 from .calls import CALLS, Desk, Refused, Said
 
 HOST = "127.0.0.1"
@@ -252,7 +252,9 @@ class Server:
         except (ValueError, TypeError, AttributeError, RecursionError):
             raise Refused(400, "a call says texts by their names") from None
         try:
-            self.desk.settings = self.desk.settings if found is None else from_values(found)
+            settings = self.desk.settings if found is None else from_values(found)
         except ValueError as error:
             raise Refused(400, f"there is no such setting: {error}") from None
+        refuse_odd(vars(settings))
+        self.desk.settings = settings
         return getattr(self.desk, name)(Said(said), asked.tell)
