@@ -678,6 +678,12 @@ def a_sheet_that_is_not_there(pair):
     pair.options = ("--sheet", "residents=Nowhere")
 
 
+@mistake("residents", 0, 0, "no sheet is named Table; there is none")
+def a_sheet_of_a_workbook_without_any(pair):
+    pair.residents_data = book(pair.residents, {"xl/workbook.xml": "<workbook><sheets/></workbook>"})
+    pair.options = ("--sheet", "residents=Table")
+
+
 @mistake("residents", 1, 1, "the table is empty")
 def an_empty_sheet(pair):
     pair.residents_data = book([])
@@ -1070,17 +1076,17 @@ def a_withdrawal_of_nobody(at):
     return ["withdraw", f"{at}/match"]
 
 
-@command(3, "the template, line 2: $nmae is none of $day")
+@command(3, "letter.txt, line 2: $nmae is none of $day")
 def a_template_with_a_misspelt_field(at):
     return template(at, "Dear applicant\n$nmae,\n")
 
 
-@command(3, "the template, line 3: $ is none of $day")
+@command(3, "letter.txt, line 3: $ is none of $day")
 def a_template_with_a_price(at):
     return template(at, "$name\r\n\r\nIt costs 5$\r\n")
 
 
-@command(3, "the template has no text")
+@command(3, "letter.txt has no text")
 def a_template_without_a_text(at):
     return template(at, "\n \n")
 

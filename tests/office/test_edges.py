@@ -127,24 +127,31 @@ class Markup(OfficeTest):
 
 class Steered(OfficeTest):
     def test_names_of_a_strangers_folder(self) -> None:
-        """Signs that no table brings into a folder, but that a key may have: no command that reads it gives them to a terminal."""
+        """A key with signs that no table brings: no command that reads it gives them to a terminal, and most refuse it."""
         out, again = self.run_tables(), self.folder / "again"
         self.assertEqual(office("withdraw", out, "Ana Silva", "--out", again).status, 0)
-        for at in (out, again):
-            key = (at / "key.csv").read_text(encoding="utf-8")
-            for name, sign in (("South", "\x1b[2J"), ("Omar", "\u202e"), ("North", "\x9b2J"), ("Kim", "\t\x07"), ("Zoë", "\u2028")):
-                key = key.replace(name, f"{name}{sign}")
-            (at / "key.csv").write_text(key, encoding="utf-8")
-            manifest = json.loads((at / "manifest.json").read_text(encoding="utf-8"))
-            manifest["sha256"]["key.csv"] = folder.digest(key.encode("utf-8"))
-            (at / "manifest.json").write_text(json.dumps(manifest), encoding="utf-8")
-        for number, words in enumerate((["compare", out, again, "--names"], ["why", out, "Ana Silva"], ["why", out, "Ana Silva", "--letter"], ["why", out, "Kim"],
-                                        ["withdraw", out, "Ana Silva", "--out", self.folder / "more"], ["changes", out, *self.tables()], ["verify", out],
-                                        ["settings", out, "--out", self.folder / "own.ini"], ["letters", out, "--preview", "1"], ["next", out, "--out", self.folder / "next"],
-                                        ["why", out, "omar haddad"])):
-            said = office(*words)
-            self.assertEqual([c for c in said.out + said.err if not is_plain(c) and c != "\n"], [], words)
-            self.assertEqual("\\x1b[2J" in said.out + said.err, number in (0, 1, 2, 4, 5, 8), words)
+        for sign, told, letter in (("\x1b[2J", r"\x1b[2J", r"\x1b"), ("\u202e", r"\u202e", r"\u202e")):
+            for at in (out, again):
+                self.change_key(at, "South", f"South{sign}")
+            for words in (["compare", out, again, "--names"], ["compare", again, out], ["why", out, "Ana Silva"], ["why", out, "Kim", "--letter"], ["changes", out, *self.tables()],
+                          ["withdraw", out, "Ana Silva", "--out", self.folder / "more"], ["letters", out, "--preview", "1"], ["next", out, "--out", self.folder / "next"]):
+                self.assertEqual(office(*words), (3, "", f"office: {words[1]}: key.csv: South{told} Hospital has the character {letter}, which is no letter\n"))
+            for words in (["verify", out], ["settings", out, "--out", self.folder / "own.ini"]):
+                said = office(*words)
+                self.assertEqual([c for c in said.out + said.err if not is_plain(c) and c != "\n"], [], words)
+            for at in (out, again):
+                self.change_key(at, f"South{sign}", "South")
+            (self.folder / "own.ini").unlink()
+        self.change_key(out, "Omar", "Omar\u200d")
+        self.assertEqual(office("why", out, "omr haddad"), (3, "", "office: no resident is named omr haddad; is it Omar\\u200d Haddad? nothing was written\n"))
+
+    def change_key(self, at: Path, before: str, after: str) -> None:
+        """Changes a name in a folder's key, and the key's hash."""
+        key = (at / "key.csv").read_text(encoding="utf-8").replace(before, after)
+        (at / "key.csv").write_text(key, encoding="utf-8")
+        manifest = json.loads((at / "manifest.json").read_text(encoding="utf-8"))
+        manifest["sha256"]["key.csv"] = folder.digest(key.encode("utf-8"))
+        (at / "manifest.json").write_text(json.dumps(manifest), encoding="utf-8")
 
 
 class FileNames(OfficeTest):

@@ -104,9 +104,9 @@ class Told(OfficeTest):
         fields = ("day, date, title, name, id, programme, choice, listed, outcome, list, docket_name, docket_sha256, lists_root, "
                   "result_root, sealed, sender, appeals, signature").replace(" ", " $")
         self.said("letters|match|--out|c|--template|letter.txt", 3,
-                  f"the template, line 1: $phone is none of ${fields}; write $$ for the sign itself", "template.field")
+                  f"letter.txt, line 1: $phone is none of ${fields}; write $$ for the sign itself", "template.field")
         self.write("letter.txt", " \n")
-        self.said("letters|match|--out|c|--template|letter.txt", 3, "the template has no text, and all letters would have none", "template.empty")
+        self.said("letters|match|--out|c|--template|letter.txt", 3, "letter.txt has no text, and all letters would have none", "template.empty")
         self.said("withdraw|match| ", 2, "match: a name without a letter means nobody; nothing was written", "member.empty")
         self.said("withdraw|match|Ana Silve", 3, "match: nobody is named Ana Silve; is it Ana Silva? nothing was written", "member.nobody")
         self.said("withdraw|match|--programme|xyz", 3, "match: no programme is named xyz; nothing was written", "member.nobody")
@@ -128,7 +128,7 @@ class Told(OfficeTest):
                   "--readable is for a match that isn't sealed: of a sealed one others may read public/ alone", "out.readable")
         self.said("letters|sealed|--out|c", 3, "sealed has no match: it was sealed, and run comes next", "folder.no-match")
         self.write("letter.txt", "\n$docket_sha256\n")
-        self.said("run|sealed|--out|c|--template|letter.txt", 3, "the template, line 2: $docket_sha256 is a hash from which others' lists can "
+        self.said("run|sealed|--out|c|--template|letter.txt", 3, "letter.txt, line 2: $docket_sha256 is a hash from which others' lists can "
                   "be guessed, and this match is sealed; $lists_root and $result_root are the published roots", "template.unsalted")
         with mock.patch("residency.office.tree.Sealed.roots", lambda tree: mock.Mock(count=1, lists="x", rows=lambda: b"", result="")), \
                 mock.patch("residency.office.seal.is_built", lambda: False), mock.patch("residency.office.running.fill", lambda *words: None):

@@ -111,8 +111,8 @@ K. Lee
             ("costs 5$", "line 1: $ is none of"),
             ("$name ${", "line 1: $ is none of"),
             ("${name.__class__}", "line 1: $ is none of"),
-            ("", "the template has no text"),
-            (" \n\t\r\n", "the template has no text"),
+            ("", "letter.txt has no text, and"),
+            (" \n\t\r\n", "letter.txt has no text, and"),
         ):
             template = self.write("letter.txt", text)
             self.refused(3, cause, "letters", self.out, "--template", template, "--out", self.folder / "letters")

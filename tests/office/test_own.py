@@ -1,15 +1,17 @@
 """Texts of the office's own: one with a character that is no letter is refused where it comes in, and nothing is written."""
+import hashlib
 import json
 import os
 import shutil
 from pathlib import Path
+from typing import Sequence
 
 import desks
 from residency.office.cells import Cells
 from residency.office.faults import Faults
 from residency.office.phrases import FOLDER
 from residency.office.settings import Settings
-from support import OfficeTest, office
+from support import PROGRAMMES, RESIDENTS, OfficeTest, office
 
 # What none may have, each as an error shows it: controls, what is for private use, and what is no character.
 ODD = {"\x1b": r"\x1b", "\x07": r"\x07", "\x0c": r"\x0c", "\x7f": r"\x7f", "\x85": r"\x85", "\ue000": r"\ue000", "\ufdd0": r"\ufdd0"}
@@ -109,7 +111,8 @@ class Own(OfficeTest):
         lines = (FOLDER / "de.txt").read_text(encoding="utf-8").split("\n")
         for c, shown in {**ODD, **HALF, **TAB, **LINES, **LINE}.items():
             for name, said in (("title", {"title": f"a{c}b"}), ("appeals", {"letter": {"appeals": f"a{c}b"}}),
-                               ("signature", {"reading": {"match": {"sender": "a", "signature": f"a{c}b"}}})):
+                               ("signature", {"reading": {"match": {"sender": "a", "signature": f"a{c}b"}}}),
+                               ("keep", {"reading": {"residents": {"delimiter": "\t"}, "tables": {"keep": ["a", f"a{c}b"]}}})):
                 change(**said)
                 for line in words:
                     path = room / ("sealed" if line[0] == "run" else "out")
@@ -120,7 +123,7 @@ class Own(OfficeTest):
             for line in (line for line in words if line[0] not in ("settings", "auditor") and c in "\x1b\x0c"):
                 self.refused(f"manifest.json: phrases, line 8: the character {shown} is no letter", *line)
         half = "a\ud800b"
-        for said in ({"language": {"own": half}}, {"template": {"letter": half}}, {"details": [half]}, {"reading": {"tables": {"ignore": [half]}}}, {half: 1}):
+        for said in ({"language": {"own": half}}, {"template": {"letter": half}}, {"details": [half]}, {"tables": [half]}, {half: 1}):
             change(**said)
             for line in words:
                 self.refused(f"{room / ('sealed' if line[0] == 'run' else 'out')}: manifest.json isn't one that office wrote", *line)
@@ -129,12 +132,50 @@ class Own(OfficeTest):
                             ("title has the character \\ud800, which is no letter", {"title": "a\ud800b"})):
             change(**said)
             self.assertIn(f"\nmade again: {error}\n", self.unverified(at))
-        change(title=f"a{GOOD}b", letter={"sender": f"c{GOOD}d"}, reading={"match": {"signature": f"e{GOOD}f"}})
+        change(title=f"a{GOOD}b", letter={"sender": f"c{GOOD}d"}, reading={"match": {"signature": f"e{GOOD}f"}, "residents": {"delimiter": "\t"}})
         self.assertEqual(office("letters", at, "--out", new).status, 0)
         self.assertTrue((new / "kim-lee.txt").read_text(encoding="utf-8").startswith(f"c{GOOD}d\n\n"))
         self.assertIn(f"<h1>a{GOOD}b</h1>", (new / "letters.html").read_text(encoding="utf-8"))
         self.assertEqual(office("settings", at, "--out", room / "next.ini").status, 0)
-        self.assertIn(f"\nsignature = e{GOOD}f\n", (room / "next.ini").read_text(encoding="utf-8"))
+        made = (room / "next.ini").read_text(encoding="utf-8")
+        self.assertIn(f"\nsignature = e{GOOD}f\n", made)
+        self.assertIn("\ndelimiter = tab\n", made)
+
+    def test_names_of_a_folder(self) -> None:
+        """Its names, IDs and kept columns, as another may have written them, with their hashes: they would come into letters."""
+        room, new = self.folder, self.folder / "new"
+        lines = RESIDENTS.split("\n")
+        residents = "\n".join(line and f"{line},{at or 'Email'},{at and f'F{at}' or 'Family name'},{at and f'I{at}' or 'ID'}" for at, line in enumerate(lines))
+        by_id = [line.replace("Ana Silva", "I1").replace("Kim Lee", "I2").replace("Zoë Brontë", "I3").replace("Jürgen Groß", "I4").replace("Omar Haddad", "I5")
+                 for line in PROGRAMMES.split("\n")]
+        at = self.run_tables("\n".join(by_id), residents, "out", "--keep", "Email")
+        self.assertEqual(office("seal", *self.tables("\n".join(by_id), residents), "--keep", "Email", "--out", room / "sealed").status, 0)
+        words = (["letters", at, "--out", new], ["letters", at, "--preview", "1"], ["withdraw", at, "Rosa Rossi", "--out", new],
+                 ["why", at, "Rosa Rossi", "--letter"], ["compare", at, at], ["next", at, "--out", new])
+        sealed = (["run", room / "sealed", "--out", new], ["withdraw", room / "sealed", "Rosa Rossi", "--out", new])
+
+        def refused(folder: Path, name: str, before: str, after: str, error: str, lines: Sequence[Sequence[object]]) -> None:
+            data, manifest = (folder / name).read_bytes(), (folder / "manifest.json").read_bytes()
+            changed = data.decode("utf-8").replace(before, after).encode("utf-8")
+            self.assertNotEqual(changed, data)
+            (folder / name).write_bytes(changed)
+            said = json.loads(manifest)
+            said["sha256"][name] = hashlib.sha256(changed).hexdigest()
+            (folder / "manifest.json").write_text(json.dumps(said))
+            for line in lines:
+                self.refused(f"{folder}: {name}: {error}, which is no letter", *line)
+            (folder / name).write_bytes(data)
+            (folder / "manifest.json").write_bytes(manifest)
+
+        for c, shown in {**ODD, **LINES, **TAB, "\xad": r"\xad", "\u202e": r"\u202e"}.items():
+            some = slice(None) if c == "\x1b" else slice(1)
+            for folder, lines_ in ((at, words[some]), (room / "sealed", sealed[some])):
+                refused(folder, "key.csv", "Zoë Brontë,", f"Zoë{c}Brontë,", f"Zoë{shown}Brontë has the character {shown}", lines_)
+                refused(folder, "key.csv", ",I3\n", f",I{c}3\n", f"I{shown}3 has the character {shown}", lines_)
+            for folder, name, lines_ in ((at, "matches.csv", words[some]), (room / "sealed", "details.csv", sealed[some])):
+                for before, error in ((",Email", f"E{shown}mail"), (",F3,", f"F{shown}3"), (",3\n", f"{shown}3")):
+                    refused(folder, name, before, f"{before[:2]}{c}{before[2:]}" if before[1] != "3" else f",{c}3\n", f"{error} has the character {shown}", lines_)
+        refused(at, "key.csv", "Zoë Brontë,", '"Zoë\nBrontë",', r"Zoë\nBrontë has the character \n", words)
 
     def test_what_the_desk_is_told(self) -> None:
         """By its page, or by a file of settings."""
@@ -142,10 +183,10 @@ class Own(OfficeTest):
             for table, path in zip(("programmes", "residents"), self.tables()):
                 running.give(table, Path(path).read_bytes())
             for c, shown in {**ODD, **HALF, **TAB, **LINES, **LINE}.items():
-                for name, call in (("title", "match"), ("sender", "seal"), ("appeals", "save_settings"), ("signature", "check")):
-                    self.assertEqual(running.said(call, settings={"match": {name: f"a{c}b"}}), [
+                for name, call in (("title", "match"), ("sender", "seal"), ("appeals", "save_settings"), ("signature", "check"), ("keep", "save_settings")):
+                    self.assertEqual(running.said(call, settings={"tables": {name: [f"a{c}b"]}} if name == "keep" else {"match": {name: f"a{c}b"}}), [
                         {"error": f"{name} has the character {shown}, which is no letter"}])
-                    if c not in LINE:
+                    if c not in LINE and name != "keep":
                         self.assertEqual(running.said("open_settings", name="own.ini", text=f"[match]\n{name} = a{c}b\n"), [
                             {"error": f"own.ini, line 2: the character {shown} is no letter"}])
             self.assertEqual((running.desk.settings, running.desk.folders, os.listdir(running.desk.room), self.left()), (Settings(), {}, [], []))

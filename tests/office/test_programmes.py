@@ -113,7 +113,7 @@ class Programmes(OfficeTest):
         (folder / "programme.txt").write_text("$nam\n")
         said = office("letters", out, "--template", folder, "--out", self.folder / "none")
         self.assertEqual((said.status, said.out), (3, ""))
-        self.assertIn("the template, line 1: $nam is none of $day, ", said.err)
+        self.assertIn(f"office: {folder}/programme.txt, line 1: $nam is none of $day, ", said.err)
 
 
 class Answers(OfficeTest):

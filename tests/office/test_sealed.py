@@ -167,7 +167,7 @@ class Written(Sealed):
             for words in (["run", sealed], ["letters", match], ["withdraw", match, "Kim Lee"]):
                 said = office(*words, "--template", template, "--out", self.folder / "refused")
                 self.assertEqual((said.status, said.out, said.err, (self.folder / "refused").exists()), (
-                    3, "", "office: the template, line 2: $docket_sha256 is a hash from which others' lists can be guessed, and this match is "
+                    3, "", f"office: {template}, line 2: $docket_sha256 is a hash from which others' lists can be guessed, and this match is "
                     "sealed; $lists_root and $result_root are the published roots\n", False))
         hashes = [hashlib.sha256((match / name).read_bytes()).hexdigest() for name in ("docket.csv", "sheet.csv", "key.csv")]
         for path in (path for part in ("letters", "receipts", "rosters", "public") for path in (match / part).iterdir()):

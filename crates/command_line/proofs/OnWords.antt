@@ -22,11 +22,6 @@ given : values_of (codes "match" ∷ codes "--workers" ∷ codes "3" ∷ codes "
 unfolding clap_on_literals
 given = refl
 
-left_out : values_of (codes "match" ∷ codes "--journal" ∷ [])
-    ≡ Some (codes "match", (Some (codes "2"), (Some (codes "full"), (Some (codes "true"), Some (codes "false")))))
-unfolding clap_on_literals
-left_out = refl
-
 replayed : option_map (λ found. found.0) (subcommand_of commands_app (codes "replay" ∷ [])) ≡ Some (codes "replay")
 unfolding clap_on_literals
 replayed = refl

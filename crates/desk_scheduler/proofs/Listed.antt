@@ -42,54 +42,6 @@ moved_once places d place k within = by (d == k) refl
     by true e = ap times (get_or-set_at places d k place Idle (sym (eqb-true d k e)) within)
     by false e = ap times (get_or-set_other places d k place Idle (λ f. eqb-false d k e (sym f)))
 
--- if a desk that isn't listed is added to the first tier and gets the state `Listed`, what is true
--- of the tiers stays true
-pub listed_more : (places : List Place) (listed behind : List ℕ) (r s d : ℕ) → AreListed places listed behind r s → d < length places
-    → times (get_or places d Idle) ≡ 0 → AreListed (set places d Listed) (listed ++ d ∷ []) behind r s
-listed_more places listed behind r s d are within none = record {
-  once = λ k. omega (arith, sum_by_push (one_for k) listed d, once k (d == k) refl);
-  as_many = omega (arith, length-append listed (d ∷ []), sum_by-set times places d Listed Idle within, are.as_many, none);
-  room = omega (arith, length-set places d Listed, are.room);
-  room_behind = omega (arith, length-set places d Listed, are.room_behind);
-}
-  where
-    once : (k : ℕ) (b : Bool) → (d == k) ≡ b → sum_by (one_for k) listed + one_for k d + sum_by (one_for k) behind ≡ times (get_or (set places d Listed) k Idle)
-    once k true e =
-        let same = eqb-true d k e in
-        let here : times (get_or places k Idle) ≡ 0 = subst (λ (n : ℕ). times (get_or places n Idle) ≡ 0) same none in
-        let one : one_for k d ≡ 1 = ap (λ (b : Bool). cond b 1 0) e in
-        let new : times (get_or (set places d Listed) k Idle) ≡ 1 = moved_once places d Listed k within ∙ ap (λ (b : Bool). cond b 1 (times (get_or places k Idle))) e in
-        omega (arith, are.once k, here, one, new)
-    once k false e =
-        let one : one_for k d ≡ 0 = ap (λ (b : Bool). cond b 1 0) e in
-        let new : times (get_or (set places d Listed) k Idle) ≡ times (get_or places k Idle) = moved_once places d Listed k within ∙ ap (λ (b : Bool). cond b 1 (times (get_or places k Idle))) e in
-        omega (arith, are.once k, one, new)
-
--- if a desk that isn't listed is added to the second tier and gets the state `Listed`, what is true
--- of the tiers stays true
-pub listed_behind : (places : List Place) (listed behind : List ℕ) (r s d : ℕ) → AreListed places listed behind r s → d < length places
-    → times (get_or places d Idle) ≡ 0 → AreListed (set places d Listed) listed (behind ++ d ∷ []) r s
-listed_behind places listed behind r s d are within none =
-    swapped _ _ _ _ _ (listed_more places behind listed s r d (swapped _ _ _ _ _ are) within none)
-
--- if a desk that isn't listed gets another state in which it isn't listed, what is true of the
--- tiers stays true
-pub moved_quietly : (places : List Place) (listed behind : List ℕ) (r s d : ℕ) (place : Place) → AreListed places listed behind r s → d < length places
-    → times (get_or places d Idle) ≡ 0 → times place ≡ 0 → AreListed (set places d place) listed behind r s
-moved_quietly places listed behind r s d place are within none still = record {
-  once = λ k. are.once k ∙ sym (once k (d == k) refl);
-  as_many = omega (arith, sum_by-set times places d place Idle within, are.as_many, none, still);
-  room = omega (arith, length-set places d place, are.room);
-  room_behind = omega (arith, length-set places d place, are.room_behind);
-}
-  where
-    once : (k : ℕ) (b : Bool) → (d == k) ≡ b → times (get_or (set places d place) k Idle) ≡ times (get_or places k Idle)
-    once k true e =
-        let here : times (get_or places k Idle) ≡ 0 = subst (λ (n : ℕ). times (get_or places n Idle) ≡ 0) (eqb-true d k e) none in
-        let new : times (get_or (set places d place) k Idle) ≡ times place = moved_once places d place k within ∙ ap (λ (b : Bool). cond b (times place) (times (get_or places k Idle))) e in
-        omega (arith, here, new, still)
-    once k false e = moved_once places d place k within ∙ ap (λ (b : Bool). cond b (times place) (times (get_or places k Idle))) e
-
 -- the desk in front of a tier has the state `Listed`
 pub top_is_listed : (places : List Place) (rest behind : List ℕ) (r s d : ℕ) → AreListed places (rest ++ d ∷ []) behind r s → times (get_or places d Idle) ≡ 1
 top_is_listed places rest behind r s d are =

@@ -207,11 +207,4 @@ impl Scheduler {
     {
         self.waiting_workers > 0 && (self.residents.is_ready() || self.programmes.is_ready())
     }
-
-    /// Whether the run has ended.
-    pub fn is_ended(&self) -> bool
-        ensures { result ≡ self.now.ended }
-    {
-        self.ended
-    }
 }

@@ -4,17 +4,16 @@ use Rattle.std.specs.Prelude.{nat_le, if◌then◌else◌, IfErr, OnOk}
 use Rattle.std.specs.Option.{option_or}
 use Rattle.docket.specs.Answers.{Refuses, Stops}
 use Rattle.records.specs.Reading.{Fields, GivesRow, IsSplit}
-use Rattle.docket.specs.FileFault.{located, there}
-use Rattle.docket.specs.Parts.{AreEnds, AreGiven, GoesOn, IsInFiles, IsInFilesWithLists, Tells, fault_of_files, files_fault, rows_of_all, file_fault, is_elsewhere, kind_fault, part_fault}
+use Rattle.docket.specs.FileFault.{there}
+use Rattle.docket.specs.Parts.{AreGiven, GoesOn, IsInFiles, IsInFilesWithLists, Tells, rows_of_all, file_fault, is_elsewhere, kind_fault, part_fault}
 use Rattle.docket.specs.Passed.{IsPassed, HasPassed}
 use Rattle.docket.specs.Limits.{is_above, most_listed, most_records}
-use Rattle.docket.specs.Passes.{first_from, first_pass_fault, reading_fault, later_fault, next_place}
+use Rattle.docket.specs.Passes.{first_from, first_pass_fault, reading_fault, next_place}
 use Rattle.docket.specs.Read.{IsSourceFault, Explains}
 use Rattle.docket.specs.Reading.{IsReading}
 use Rattle.docket.specs.declared.part.Part.{Part}
 use Rattle.docket.specs.declared.file_fault.FileFault.{FileFault}
-use Rattle.docket.specs.declared.file_fault.Ends.{Ends}
-use Rattle.docket.specs.Contents.{Contents, contents_of, draft_of}
+use Rattle.docket.specs.Contents.{Contents, draft_of}
 use Rattle.docket.specs.WithLists.{KeptLists, lists_if}
 use Rattle.match_model.specs.Written.{Written, written_of}
 use Rattle.std.proofs.lemmas.Option.{same_Some}
@@ -250,36 +249,6 @@ files_none a b c x y z = rw (x, y, z) refl
 -- all records of the files so far were read
 pub all_passed : (rows : List Fields) (reading : Reading) → IsPassed reading rows → HasPassed (Some rows) reading
 all_passed rows reading p = record { rows = rows; all_are = refl; passed = p }
-
--- a fault that a later pass finds is reported with the file in which its record stands
-pub later_told : (lim : Limits) (d s j : List ℕ) (ends : Ends) (r : Reading) (f : DocketFault) → r.declared.builder.limits ≡ lim → files_fault lim d s j ≡ None → AreEnds d s ends
-    → (h : HasPassed (Some (rows_of_all d s j)) r) → ((rows : List Fields) → IsPassed r rows → Refuses (later_fault r.declared.builder.limits rows) f)
-    → Tells (fault_of_files lim d s j) (located ends.docket ends.sheet f)
-later_told lim d s j ends r f same own at h answers = by (answers h.rows h.passed)
-  where
-    by : Refuses (later_fault r.declared.builder.limits h.rows) f → Tells (fault_of_files lim d s j) (located ends.docket ends.sheet f)
-    by (inl memory) = inl (inl (rw memory refl))
-    by (inr is) =
-        let here : later_fault lim (rows_of_all d s j) ≡ Some f = rw (h.all_are, ← same) is in
-        inr (rw (own, here, at.docket_end, at.sheet_end) refl)
-
--- if no pass finds a fault, what was read is the docket in the files
-pub later_read : (lim : Limits) (d s j : List ℕ) (r : Reading) (c : Contents) → r.declared.builder.limits ≡ lim → files_fault lim d s j ≡ None
-    → (h : HasPassed (Some (rows_of_all d s j)) r) → ((rows : List Fields) → IsPassed r rows → later_fault r.declared.builder.limits rows ≡ None)
-    → ((rows : List Fields) → IsPassed r rows → c ≡ contents_of rows) → IsInFiles lim d s j c
-later_read lim d s j r c same own h none is =
-    let here : later_fault lim (rows_of_all d s j) ≡ None = rw (h.all_are, ← same) (none h.rows h.passed) in
-    let first : first_from (first_pass_fault lim) [] (rows_of_all d s j) ≡ None = rw (h.all_are, ← same) h.passed.sound in
-    record {
-      faultless = rw (own, here) refl;
-      sound = rw (first, here) refl;
-      docket_is = rw h.all_are (is h.rows h.passed);
-    }
-
--- the lists that were kept are the lists in the records of the files
-pub later_lists : (d s j : List ℕ) (keeps : Bool) (r : Reading) (w : Option KeptLists) → (h : HasPassed (Some (rows_of_all d s j)) r)
-    → ((rows : List Fields) → IsPassed r rows → w ≡ lists_if keeps rows) → w ≡ lists_if keeps (rows_of_all d s j)
-later_lists d s j keeps r w h lists = rw h.all_are (lists h.rows h.passed)
 
 -- the docket in the files was read together with the lists that were kept
 pub lists_in_files : (lim : Limits) (d s j : List ℕ) (c : Contents) (kept : Option KeptLists) (w : Written) (given : List (Option (List ℕ))) → kept ≡ Some (w, given) → IsInFiles lim d s j c

@@ -1,7 +1,7 @@
 -- The first fault of a pass over the rows, as the rows are read one by one.
 use Rattle.docket.specs.Limits.{most_records}
 use Rattle.match_model.specs.declared.limits.Limits.{Limits}
-use Rattle.std.proofs.Common.{◌≡◌, ◌⊎◌, ◌<◌, ◌+◌, ℕ, List, [], ◌∷◌, ◌++◌, Bool, true, false, length, take, drop, sym, ◌∙◌, refl, ap, Option, Some, None, inl, inr, append_assoc, append-nil, rules, arith}
+use Rattle.std.proofs.Common.{◌≡◌, ◌⊎◌, ◌<◌, ◌+◌, ℕ, List, [], ◌∷◌, ◌++◌, Bool, true, false, length, take, drop, sym, ◌∙◌, refl, ap, Option, Some, None, inl, inr, append_assoc, append-nil, rules}
 use Rattle.std.specs.Prelude.{nat_le, if◌then◌else◌}
 use Rattle.std.proofs.lemmas.List.{take_more, take-append-drop, length-append}
 use Rattle.std.specs.Option.{option_or}
@@ -62,16 +62,6 @@ reading_fault-few lim before row few = by (nat_le (most_records lim) (length bef
         ≡ option_or (row_fault (next_place before) (workers_in before) row) (option_or (repeat_fault before row) (limit_fault lim before row))
     by true e = absurd (search (rules, few, e))
     by false e = refl
-
-pub reading_fault-many : (lim : Limits) (before : List Fields) (row : Fields) → length before ≡ most_records lim → reading_fault lim before row ≡ Some (TooManyRecords (most_records lim + 1))
-unfolding reading_fault
-reading_fault-many lim before row many = by (nat_le (most_records lim) (length before)) refl
-  where
-    by : (b : Bool) → nat_le (most_records lim) (length before) ≡ b
-        → (if b then Some (TooManyRecords (next_place before)) else option_or (row_fault (next_place before) (workers_in before) row) (option_or (repeat_fault before row) (limit_fault lim before row)))
-        ≡ Some (TooManyRecords (most_records lim + 1))
-    by true e = rw many refl
-    by false e = let less : length before < most_records lim = search (rules, e) in absurd (omega (arith, less, many))
 
 -- an empty list of rows has no fault
 pub first_from-none : {F : Type 0} (f : List Fields → Fields → Option F) → first_from f [] [] ≡ None

@@ -7,11 +7,11 @@ use Rattle.std.proofs.lemmas.List.Folds.{list_any-append}
 use Rattle.std.proofs.lemmas.List.{take_all, get_or-set_same, get_or-set_other}
 use Rattle.std.proofs.lemmas.List.Elements.{All-head, All-tail}
 use Rattle.std.proofs.lemmas.Iterator.Adapters.{position_from-zero}
-use Rattle.std.proofs.lemmas.Option.{slice_get-get_or, get_or_from_slice_get, slice_get_within, same_Some}
+use Rattle.std.proofs.lemmas.Option.{slice_get-get_or, get_or_from_slice_get, same_Some}
 use Rattle.std.proofs.lemmas.Slice.Eq.{bytes_eq-Decides}
 use Rattle.docket_names.specs.Texts.{number_in, is_declared, texts_at, AreNumbersOf, AreNames, AreFoundBy, AreNoted, StartsWith}
 use Rattle.docket_names.proofs.NameFacts.{is_some-position, number_in-map, number_there, same_bytes}
-use Rattle.docket_names.proofs.TextFacts.{names_none, names_grown, names_more, number_found, number_text}
+use Rattle.docket_names.proofs.TextFacts.{names_none, names_grown, names_more}
 
 -- if no earlier item passes a test and the next item passes, the search finds the next item
 from_hit : {A : Type 0} (p : A → Bool) (n : ℕ) (xs : List A) (x : A) → position_from p n xs ≡ None → p x ≡ true → position_from p n (xs ++ x ∷ []) ≡ Some (n + length xs)
@@ -100,20 +100,6 @@ member_named texts members n text d all at =
     alike i (m ∷ ms) h =
         let head = by m (All-head (λ k. k < length texts) m ms h) (nat_eq n m) refl (bytes_eq text (get_or texts m [])) refl in
         rw (head, alike (i + 1) ms (All-tail (λ k. k < length texts) m ms h)) refl
-
--- a text that is not among the docket's texts is no member's name
-pub nowhere_named : (texts : List (List ℕ)) (members : List ℕ) (text : List ℕ) → IsDistinct bytes_eq texts → AreNumbersOf texts members
-    → number_in texts text ≡ None → number_in (texts_at texts members) text ≡ None
-nowhere_named texts members text d all none = by (number_in (texts_at texts members) text) refl
-  where
-    by : (o : Option ℕ) → number_in (texts_at texts members) text ≡ o → o ≡ None
-    by None e = refl
-    by (Some i) e =
-        let there = number_found (texts_at texts members) text i e in
-        let own = number_text texts members i (slice_get_within (texts_at texts members) i text there) all in
-        let is = get_or_from_slice_get (texts_at texts members) i text [] there in
-        let has = number_there texts (get_or members i 0) text d (own ∙ ap Some is) in
-        absurd (cc (has, none))
 
 -- a name is declared exactly if its text belongs to a member
 pub name_asked : (texts : List (List ℕ)) (numbers : List ℕ) (names : List (List ℕ)) (n : ℕ) (name : List ℕ) → IsDistinct bytes_eq texts → AreNames texts numbers names

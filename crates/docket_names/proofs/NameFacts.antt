@@ -131,11 +131,6 @@ number_is_name text h =
     and_both (nat_le 1 (length text) && nat_le (length text) 32) (list_all is_name_byte text)
     (and_both (nat_le 1 (length text)) (nat_le (length text) 32) sized.0 few) (digits_named text parts.1)
 
--- one letter has the form of a name
-pub letter_is_name : (c : ℕ) → is_name_byte c ≡ true → is_name (c ∷ []) ≡ true
-unfolding is_name
-letter_is_name c h = and_both (is_name_byte c) true h refl
-
 -- a name has at most 32 bytes
 pub name_length : (name : List ℕ) → is_name name ≡ true → length name ≤ 32
 unfolding is_name

@@ -31,10 +31,6 @@ length-texts_at texts numbers = length-map numbers (λ n. get_or texts n [])
 pub place_of_number : (texts : List (List ℕ)) (numbers : List ℕ) (k : ℕ) → k < length (texts_at texts numbers) → k < length numbers
 place_of_number texts numbers k h = let size = length-texts_at texts numbers in omega arith
 
--- each number at an index of the list is the number of some text
-pub number_within : (texts : List (List ℕ)) (numbers : List ℕ) (k : ℕ) → k < length (texts_at texts numbers) → AreNumbersOf texts numbers → get_or numbers k 0 < length texts
-number_within texts numbers k h all = all k 0 (place_of_number texts numbers k h)
-
 -- the text at an index is the text of the number at this index
 pub number_text : (texts : List (List ℕ)) (numbers : List ℕ) (k : ℕ) → k < length (texts_at texts numbers) → AreNumbersOf texts numbers
     → slice_get texts (get_or numbers k 0) ≡ Some (get_or (texts_at texts numbers) k [])

@@ -1,5 +1,5 @@
 -- The answers due after one more offer, and the last hold in a list of answers.
-use Rattle.std.proofs.Common.{◌≡◌, ℕ, ◌*◌, ◌<◌, ◌≤◌, Bool, true, false, List, [], ◌∷◌, ◌++◌, length, Option, Some, None, refl, ap, sym, ◌∙◌, append_assoc, append-nil, arith, length-append, fold}
+use Rattle.std.proofs.Common.{◌≡◌, ℕ, ◌*◌, ◌≤◌, Bool, true, false, List, [], ◌∷◌, ◌++◌, length, Option, Some, None, refl, ap, sym, ◌∙◌, append_assoc, append-nil, arith, length-append, fold}
 use Rattle.std.proofs.lemmas.List.Sums.{fold-append, fold_push}
 use Rattle.exchange_core.specs.declared.event.AnswerKind.TheVariants.{Hold, Decline}
 use Rattle.exchange_core.specs.Mail.{Answered}
@@ -40,13 +40,6 @@ length-called_by-le a earlier p = step (beats_all a earlier p) refl
   where
     step : (b : Bool) → beats_all a earlier p ≡ b → length (called_by a earlier p) ≤ 2
     step true e = rw (called_by_better a earlier p e) (omega (arith, length-release_of-le (best_of a earlier)))
-    step false e = rw (called_by_other a earlier p e) (omega arith)
-
-pub called_by_some : (a earlier : List ℕ) (p : ℕ) → 0 < length (called_by a earlier p)
-called_by_some a earlier p = step (beats_all a earlier p) refl
-  where
-    step : (b : Bool) → beats_all a earlier p ≡ b → 0 < length (called_by a earlier p)
-    step true e = rw (called_by_better a earlier p e) (omega arith)
     step false e = rw (called_by_other a earlier p e) (omega arith)
 
 pub length-calls-le : (a xs : List ℕ) → length (calls a xs) ≤ 2 * length xs

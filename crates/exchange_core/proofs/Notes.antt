@@ -1,5 +1,5 @@
 -- Which notes a part of the row has after a note is added to it or removed from it.
-use Rattle.std.proofs.Common.{◌≡◌, ◌≢◌, ℕ, zero, suc, ◌+◌, ◌-◌, ◌<◌, ◌≤◌, Bool, ◌⊎◌, inl, inr, List, [], ◌∷◌, ◌++◌, Some, None, length, drop, map, get_or, slice_get, refl, sym, ap, ◌∙◌, subst, arith, zero-add, ⊎_elim}
+use Rattle.std.proofs.Common.{◌≡◌, ◌≢◌, ℕ, zero, suc, ◌+◌, ◌-◌, ◌<◌, ◌≤◌, Bool, ◌⊎◌, inl, inr, List, [], ◌∷◌, ◌++◌, Some, length, drop, map, get_or, slice_get, refl, sym, ap, ◌∙◌, subst, arith, zero-add, ⊎_elim}
 use Rattle.std.specs.Prelude.{slice_set, if◌then◌else◌}
 use Rattle.std.specs.List.{range_with_len}
 use Rattle.std.proofs.lemmas.Bool.{cases_lt, cases_eq, lt-ltb, le-ltb, eq-eqb, ne_eqb}
@@ -43,9 +43,6 @@ same_made f g n d same = fill_by_all g (map f (range_with_len 0 n)) n d (length-
 pub length-waiting : (notes : List ℕ) (part : Part) → length (waiting_in notes part) ≡ part.len
 length-waiting notes part = length-map-range_with_len (λ k. get_or notes (place_in part k) 0) 0 part.len
 
-pub waiting_opened : (notes : List ℕ) (start room : ℕ) → waiting_in notes (opened start room) ≡ []
-waiting_opened notes start room = refl
-
 -- the note at the front of a part that isn't empty is the first of its waiting notes
 pub first_waiting : (notes : List ℕ) (part : Part) → part.len ≢ 0 → slice_get (waiting_in notes part) 0 ≡ Some (get_or notes (place_in part 0) 0)
 first_waiting notes part some = go part.len some
@@ -53,9 +50,6 @@ first_waiting notes part some = go part.len some
     go : (n : ℕ) → n ≢ 0 → slice_get (map (λ k. get_or notes (place_in part k) 0) (range_with_len 0 n)) 0 ≡ Some (get_or notes (place_in part 0) 0)
     go zero h = absurd (h refl)
     go (suc n) h = refl
-
-pub none_waiting : (notes : List ℕ) (part : Part) → part.len ≡ 0 → slice_get (waiting_in notes part) 0 ≡ None
-none_waiting notes part none = ap (λ n. slice_get (map (λ k. get_or notes (place_in part k) 0) (range_with_len 0 n)) 0) none
 
 -- a write outside a part leaves the notes of this part as they are
 pub waiting_elsewhere : (notes : List ℕ) (part : Part) (at x : ℕ) → IsRing part → (at < part.start) ⊎ (part.start + part.room ≤ at) → waiting_in (slice_set notes at x) part ≡ waiting_in notes part
@@ -174,9 +168,6 @@ laid_more spans total room laid = record {
 
     last : (k : ℕ) → k ≡ length spans → get_or (spans ++ (total, room) ∷ []) k (0, 0) ≡ (total, room)
     last k e = get_or_at spans (total, room) [] (0, 0) k (sym e)
-
-pub laid_none : (total : ℕ) → AreLaid [] total
-laid_none total = record { within = λ k h. absurd (omega (arith, h)); apart = λ i k l h. absurd (omega (arith, h)) }
 
 -- ---- what the seats show after one seat and the row of notes change
 

@@ -1,5 +1,5 @@
 -- The best-ranked item among the items of a list.
-use Rattle.std.proofs.Common.{◌≡◌, ℕ, ◌+◌, ◌<◌, ◌≤◌, Bool, true, false, cond, ltb, ◌⊎◌, inl, inr, List, [], ◌∷◌, ◌++◌, Option, Some, None, refl, ap, sym, ◌∙◌, subst, arith, le_of_eq}
+use Rattle.std.proofs.Common.{◌≡◌, ℕ, ◌+◌, ◌<◌, ◌≤◌, Bool, true, false, ltb, ◌⊎◌, inl, inr, List, [], ◌∷◌, ◌++◌, Option, Some, None, refl, ap, sym, ◌∙◌, subst, arith, le_of_eq}
 use Rattle.std.specs.List.{list_all}
 use Rattle.std.proofs.lemmas.Bool.{eq-eqb, ltb-true, ltb-false, lt-ltb, and_parts, and_cases, and_from}
 use Rattle.std.proofs.lemmas.Option.{same_Some}
@@ -108,10 +108,3 @@ best_of_push_same a l p e = step (best_of a l) refl (beats_all-false a l p e)
         least : (q : ℕ) → IsListed l q ⊎ (p ≡ q) → place a c ≤ place a q
         least q (inl h) = let r = best_of_Some a l c w in r.2 q h
         least q (inr v) = subst (λ (t : ℕ). place a c ≤ place a t) v (at_p u)
-
-pub best_of_push : (a l : List ℕ) (p : ℕ) → best_of a (l ++ p ∷ []) ≡ cond (beats_all a l p) (Some p) (best_of a l)
-best_of_push a l p = step (beats_all a l p) refl
-  where
-    step : (t : Bool) → beats_all a l p ≡ t → best_of a (l ++ p ∷ []) ≡ cond t (Some p) (best_of a l)
-    step true e = best_of_push_better a l p e
-    step false e = best_of_push_same a l p e

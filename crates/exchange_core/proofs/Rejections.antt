@@ -1,9 +1,9 @@
 -- How often a programme is rejected, counted by the answers that are due and by the answers that were given.
 use mathlib.Core.List.{IsPrefix}
 use Rattle.std.proofs.Common.{◌≡◌, ℕ, zero, suc, ◌+◌, ◌≤◌, Bool, true, false, cond, eqb, ◌&&◌, ◌⊎◌, inl, inr, List, [], ◌∷◌, ◌++◌, length, slice_get, Option, Some, None, refl, ap, sym, ◌∙◌, subst, arith, sum_by, count_by}
-use Rattle.std.proofs.lemmas.Bool.{cases_eq, cases_Bool, eq-eqb, ne_eqb, false_from_ne_true}
+use Rattle.std.proofs.lemmas.Bool.{cases_eq, eq-eqb, ne_eqb}
 use Rattle.std.proofs.lemmas.Option.{same_Some}
-use Rattle.std.proofs.lemmas.List.Sums.{sum_by-cons, sum_by-append, sum_by_push}
+use Rattle.std.proofs.lemmas.List.Sums.{sum_by-cons, sum_by-append}
 use Rattle.match_model.specs.Ranking.{IsListed, is_listed, HasNoRepeats}
 use Rattle.match_model.specs.Instance.{Instance, IsInstance, IsResident, quota, list_of_resident}
 use Rattle.match_model.proofs.Rankings.{is_listed-true}
@@ -29,7 +29,6 @@ use Rattle.std.specs.List.{flat_map}
 use Rattle.exchange_core.proofs.Totals.{over_residents, sum_below-flat_map, sum_below-where_same}
 use Rattle.exchange_core.proofs.Members.{offers_of_members, HasMembers, members_at}
 use Rattle.exchange_core.proofs.InOrder.{offers_match, next_call, takes_in_order, answers_in_order, hears_in_order, listed_offer_of, offers_of_no_repeats, takes_no_repeats}
-use Rattle.exchange_core.proofs.Refusal.{number_from, number_to}
 
 -- whether the answer rejects programme x and so frees a place of x
 abbrev pub is_rejection_of : ℕ → Answered → Bool
@@ -41,9 +40,6 @@ rejections_of x answers = count_by (is_rejection_of x) answers
 
 pub rejections_of-append : (x : ℕ) (xs ys : List Answered) → rejections_of x (xs ++ ys) ≡ rejections_of x xs + rejections_of x ys
 rejections_of-append x xs ys = sum_by-append (λ a. cond (is_rejection_of x a) 1 0) xs ys
-
-pub rejections_of_push : (x : ℕ) (xs : List Answered) (a : Answered) → rejections_of x (xs ++ a ∷ []) ≡ rejections_of x xs + cond (is_rejection_of x a) 1 0
-rejections_of_push x xs a = sum_by_push (λ a. cond (is_rejection_of x a) 1 0) xs a
 
 pub rejections_of-cons : (x : ℕ) (a : Answered) (xs : List Answered) → rejections_of x (a ∷ xs) ≡ cond (is_rejection_of x a) 1 0 + rejections_of x xs
 rejections_of-cons x a xs = sum_by-cons (λ a. cond (is_rejection_of x a) 1 0) a xs
@@ -115,38 +111,11 @@ rejections_of-calls a l h p = step (is_listed l p) (is_number (best_of a l) p) r
     step true false e f k = omega (arith, k, count_from_no_repeats l h p, count_of_listed l p (is_listed-true l p e))
     step false t e f k = omega (arith, k, count_of_unlisted l p e)
 
--- the best programme in a list of offers is never rejected
-pub held_not_rejected : (a l : List ℕ) (p : ℕ) → HasNoRepeats l → best_of a l ≡ Some p → rejections_of p (calls a l) ≡ 0
-held_not_rejected a l p h e =
-    let held : holds_one (best_of a l) p ≡ 1 = ap (λ b. cond b 1 0) (number_to (best_of a l) p e) in
-    omega (arith, held_or_rejected a l p, held, count_from_no_repeats l h p)
-
--- each offering programme but the best is rejected once
-pub others_rejected : (a l : List ℕ) (p : ℕ) → HasNoRepeats l → IsListed l p → (best_of a l ≡ Some p → ⊥) → rejections_of p (calls a l) ≡ 1
-others_rejected a l p h k n =
-    let other = false_from_ne_true (is_number (best_of a l) p) (λ e. n (number_from (best_of a l) p e)) in
-    let held : holds_one (best_of a l) p ≡ 0 = ap (λ b. cond b 1 0) other in
-    omega (arith, held_or_rejected a l p, held, count_from_no_repeats l h p, count_of_listed l p k)
-
--- a programme that isn't in the list of offers is never rejected
-pub strangers_not_rejected : (a l : List ℕ) (p : ℕ) → is_listed l p ≡ false → rejections_of p (calls a l) ≡ 0
-strangers_not_rejected a l p u = omega (arith, held_or_rejected a l p, count_of_unlisted l p u)
-
 pub rejections_of-calls-le : (a l : List ℕ) (p : ℕ) → rejections_of p (calls a l) ≤ count_of p l
 rejections_of-calls-le a l p = omega (arith, held_or_rejected a l p)
 
 pub rejected_at_most_once : (a l : List ℕ) (p : ℕ) → HasNoRepeats l → rejections_of p (calls a l) ≤ 1
 rejected_at_most_once a l p h = omega (arith, rejections_of-calls-le a l p, count_from_no_repeats l h p)
-
--- a programme in the list of offers that wasn't rejected is the best
-pub not_rejected_is_best : (a l : List ℕ) (p : ℕ) → HasNoRepeats l → IsListed l p → rejections_of p (calls a l) ≡ 0 → best_of a l ≡ Some p
-not_rejected_is_best a l p h k none = step (cases_Bool (is_number (best_of a l) p))
-  where
-    step : (is_number (best_of a l) p ≡ true) ⊎ (is_number (best_of a l) p ≡ false) → best_of a l ≡ Some p
-    step (inl e) = number_from (best_of a l) p e
-    step (inr e) =
-        let held : holds_one (best_of a l) p ≡ 0 = ap (λ b. cond b 1 0) e in
-        absurd (omega (arith, held_or_rejected a l p, held, none, count_of_listed l p k))
 
 -- an answer is only due to a programme in the list of offers
 pub calls_item_listed : (a l : List ℕ) (i : ℕ) (c : Answered) → slice_get (calls a l) i ≡ Some c → IsListed l c.0

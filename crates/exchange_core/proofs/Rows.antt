@@ -1,6 +1,6 @@
 -- A side's seats and its row of notes show a list of desks. These lemmas say what is shown after one seat is read or
 -- changed.
-use Rattle.std.proofs.Common.{◌≡◌, ◌≢◌, ℕ, zero, suc, ◌+◌, ◌<◌, ◌≤◌, not, ◌⊎◌, List, [], ◌∷◌, ◌++◌, Option, Some, None, ⊎_elim, length, map, get_or, slice_get, refl, sym, ap, ◌∙◌, subst, arith}
+use Rattle.std.proofs.Common.{◌≡◌, ◌≢◌, ℕ, ◌+◌, ◌<◌, ◌≤◌, not, ◌⊎◌, List, [], ◌∷◌, ◌++◌, Option, Some, None, ⊎_elim, length, map, get_or, slice_get, refl, sym, ap, ◌∙◌, subst, arith}
 use Rattle.std.specs.Prelude.{slice_set, nat_lt}
 use Rattle.std.specs.List.{All}
 use Rattle.std.proofs.lemmas.Bool.{cases_lt, lt-ltb}
@@ -15,15 +15,6 @@ use Rattle.exchange_core.proofs.Notes.{place_within, waiting_elsewhere, outside,
 pub nonempty : {X : Type 0} (xs : List X) → nat_lt 0 (length xs) ≡ not (is_nil xs)
 nonempty [] = refl
 nonempty (x ∷ xs) = lt-ltb 0 (length (x ∷ xs)) (omega arith)
-
-any_default : {X : Type 0} (xs : List X) (i : ℕ) (d e : X) → i < length xs → get_or xs i d ≡ get_or xs i e
-any_default [] i d e h = absurd (omega (arith, h))
-any_default (x ∷ xs) zero d e h = refl
-any_default (x ∷ xs) (suc i) d e h = any_default xs i d e (omega (arith, h))
-
--- a seat that is read twice is the same seat
-pub same_seat : {X : Type 0} (xs : List X) (i : ℕ) (a b : X) → i < length xs → a ≡ get_or xs i a → b ≡ get_or xs i b → a ≡ b
-same_seat xs i a b h e f = e ∙ any_default xs i a b h ∙ sym f
 
 pub index_within : {X Y : Type 0} (f : X → Y) (seats : List X) (now : List Y) (i r : ℕ) → map f seats ≡ now → i ≡ r → r < length now → i < length seats
 index_within f seats now i r e q h = omega (arith, h, q, ap (λ ys. length ys) e, length-map seats f)

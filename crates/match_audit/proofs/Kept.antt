@@ -10,18 +10,12 @@ use Rattle.match_model.specs.Ranking.{place, IsListed, HasNoRepeats}
 use Rattle.match_model.proofs.Rankings.{is_listed_not, is_listed-false}
 use Rattle.match_model.proofs.Counts.{count_of}
 use Rattle.match_model.proofs.Listed.{count_from_no_repeats, no_repeats_from_count, listed_push_parts, listed_push_before, listed_push_last, no_repeats_push, no_repeats_last}
-use Rattle.settle_law.proofs.Places.{HasNoRepeats-nil, IsListed-nil, IsListed-get_or, get_or-place}
+use Rattle.settle_law.proofs.Places.{IsListed-get_or, get_or-place}
 
 -- the selected items are the items of the list for which P holds, each once
 pub record Keeps (P : ℕ → Type 0) (xs kept : List ℕ) : Type 0 where
   pub once : HasNoRepeats kept
   pub each : (x : ℕ) → IsListed kept x ↔ (IsListed xs x × P x)
-
-pub Keeps_none : (P : ℕ → Type 0) → Keeps P [] []
-Keeps_none P = record {
-  once = HasNoRepeats-nil;
-  each = λ x. (λ l. absurd (IsListed-nil x l), λ l. absurd (IsListed-nil x l.0));
-}
 
 pub Keeps_more_no : (P : ℕ → Type 0) (xs kept : List ℕ) (y : ℕ) → Keeps P xs kept → (P y → ⊥) → Keeps P (xs ++ y ∷ []) kept
 Keeps_more_no P xs kept y h n = record {

@@ -45,18 +45,9 @@ Lists-same R S xs h to from = record {
   rising = h.rising;
 }
 
-pub Lists-nil : (R : ℕ → ℕ → Type 0) → ((a b : ℕ) → R a b → ⊥) → Lists R []
-Lists-nil R none = record {
-  each = λ a b. (λ c. absurd (omega (arith, c.1)), λ r. absurd (none a b r));
-  rising = λ i j d l m. absurd (omega arith);
-}
-
 -- the pairs for which R holds and whose first number is below n
 abbrev pub upto : ℕ → (ℕ → ℕ → Type 0) → ℕ → ℕ → Type 0
 upto n R a b = (a < n) × R a b
-
-pub Lists_none : (R : ℕ → ℕ → Type 0) → Lists (upto 0 R) []
-Lists_none R = Lists-nil (upto 0 R) (λ a b h. absurd (omega (arith, h.0)))
 
 pub Lists_all : (R : ℕ → ℕ → Type 0) (n : ℕ) (xs : List (ℕ × ℕ)) → Lists (upto n R) xs → ((a b : ℕ) → R a b → a < n) → Lists R xs
 Lists_all R n xs h within = Lists-same (upto n R) R xs h (λ a b r. r.1) (λ a b r. (within a b r, r))

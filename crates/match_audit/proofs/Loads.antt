@@ -1,8 +1,8 @@
 -- How the programmes' loads change if a placement gets one more entry.
-use Rattle.std.proofs.Common.{◌≡◌, ℕ, ◌+◌, ◌<◌, ◌≤◌, ◌⊎◌, inl, inr, Bool, true, false, cond, max, List, [], ◌∷◌, ◌++◌, length, slice_get, get_or, set, replicate, take, arith, refl, sym, ap, ◌∙◌, subst}
+use Rattle.std.proofs.Common.{◌≡◌, ℕ, ◌+◌, ◌<◌, ◌≤◌, ◌⊎◌, inl, inr, Bool, true, false, cond, max, List, [], ◌∷◌, ◌++◌, length, slice_get, get_or, set, take, arith, refl, sym, ap, ◌∙◌, subst}
 use Rattle.std.specs.Prelude.{Option, Some, None, ◌↔◌}
 use Rattle.std.proofs.lemmas.Bool.{cases_lt, cases_eq, ne_eqb}
-use Rattle.std.proofs.lemmas.List.{length_push, length-set, length-replicate, get_or_append_left, get_or_push, get_or-set_same, get_or-set_other, get_or-replicate, length-take-le}
+use Rattle.std.proofs.lemmas.List.{length_push, length-set, get_or_append_left, get_or_push, get_or-set_same, get_or-set_other, length-take-le}
 use Rattle.std.proofs.lemmas.List.Sums.{sum_by_push, count_by-le-length}
 use Rattle.std.proofs.lemmas.Option.{get_or_from_slice_get, slice_get-get_or, slice_get_within, same_Some}
 use Rattle.match_model.specs.Ranking.{place}
@@ -38,13 +38,6 @@ member_count_push m x p = sum_by_push (λ z. cond (holds p z) 1 0) m x
 holds_false : (p : ℕ) (x : Option ℕ) → (x ≡ Some p → ⊥) → holds p x ≡ false
 holds_false p None n = refl
 holds_false p (Some q) n = ne_eqb q p (λ e. n (ap Some e))
-
--- in a placement without entries, programme p has no members and 0 as the last place
-IsLoadOf-none : (inst : Instance) (p : ℕ) → IsLoadOf inst [] p (record { members = 0; worst_rank = 0 })
-IsLoadOf-none inst p = record {
-  members = refl;
-  worst_rank = λ k. (λ l. absurd (omega arith), λ (s, h, l). absurd (omega (arith, member_within [] s p h)));
-}
 
 -- an entry that does not name programme p leaves the load of p as it is
 IsLoadOf-other : (inst : Instance) (m : List (Option ℕ)) (x : Option ℕ) (p : ℕ) (load : Load) → IsLoadOf inst m p load →
@@ -86,18 +79,6 @@ IsLoadOf-more inst m p load h = record {
   where
     one : (b : Bool) → b ≡ true → member_count m p + cond b 1 0 ≡ load.members + 1
     one b e = rw e (let i = h.members in omega arith)
-
-pub AreLoads-none : (inst : Instance) (n : ℕ) → n ≡ length inst.quotas → AreLoads inst [] (replicate n (record { members = 0; worst_rank = 0 }))
-AreLoads-none inst n e = record {
-  one_each = length-replicate n zeroes ∙ e;
-  each = λ p load at.
-      let w : p < n = omega (arith, slice_get_within (replicate n zeroes) p load at, length-replicate n zeroes) in
-      let same : zeroes ≡ load = sym (get_or-replicate n p zeroes load w) ∙ get_or_from_slice_get (replicate n zeroes) p load load at in
-      subst (λ z. IsLoadOf inst [] p z) same (IsLoadOf-none inst p);
-}
-  where
-    zeroes : Load
-    zeroes = record { members = 0; worst_rank = 0 }
 
 pub AreLoads-other : (inst : Instance) (m : List (Option ℕ)) (x : Option ℕ) (loads : List Load) → AreLoads inst m loads →
     ((p : ℕ) → IsProgramme inst p → x ≡ Some p → ⊥) → AreLoads inst (m ++ x ∷ []) loads

@@ -1,6 +1,6 @@
 -- How often a number stands in a list, and sums over the numbers below a bound.
-use Rattle.std.proofs.Common.{◌≡◌, ℕ, zero, suc, ◌+◌, ◌<◌, ◌≤◌, Bool, false, cond, eqb, ◌⊎◌, inl, inr, List, [], ◌∷◌, ◌++◌, length, take, get_or, slice_get, Some, refl, ap, ap₂, sym, ◌∙◌, add-one, zero-add, arith, sum_by}
-use Rattle.std.proofs.lemmas.List.Sums.{sum_by-cons, sum_by_more}
+use Rattle.std.proofs.Common.{◌≡◌, ℕ, zero, suc, ◌+◌, ◌<◌, ◌≤◌, Bool, false, cond, eqb, ◌⊎◌, inl, inr, List, [], ◌∷◌, ◌++◌, length, slice_get, Some, refl, ap, ap₂, sym, ◌∙◌, zero-add, arith, sum_by}
+use Rattle.std.proofs.lemmas.List.Sums.{sum_by-cons}
 use Rattle.std.proofs.lemmas.Bool.{cases_lt, cases_eq, eq-eqb, ne_eqb}
 use Rattle.match_model.proofs.Rankings.{eqb_comm}
 
@@ -77,13 +77,6 @@ pub sum_below_counts : (xs : List ℕ) (n : ℕ) → sum_below (λ k. count_of k
 sum_below_counts [] n = omega (arith, sum_below_zero n)
 sum_below_counts (x ∷ xs) n = omega (arith, sum_below-add (λ k. cond (eqb x k) 1 0) (λ k. count_of k xs) n, sum_below_mark x n, sum_below_counts xs n)
 
--- a sum over the first n items of a list is a sum over their places
-pub sum_by_places : {X : Type 0} (f : X → ℕ) (xs : List X) (d : X) (n : ℕ) → n ≤ length xs → sum_by f (take n xs) ≡ sum_below (λ k. f (get_or xs k d)) n
-sum_by_places f xs d zero l = refl
-sum_by_places f xs d (suc n) l =
-    let e : sum_by f (take (suc n) xs) ≡ sum_by f (take n xs) + f (get_or xs n d) = rw (← add-one n) (sum_by_more f xs n d l) in
-    e ∙ ap (λ (t : ℕ). t + f (get_or xs n d)) (sum_by_places f xs d n (omega arith))
-
 -- ---- sums over the items of a list
 
 pub sum_by_same : {X : Type 0} (f g : X → ℕ) (xs : List X) → ((i : ℕ) (x : X) → slice_get xs i ≡ Some x → f x ≡ g x) → sum_by f xs ≡ sum_by g xs
@@ -97,30 +90,3 @@ sum_by-le f g (x ∷ xs) h = omega (arith, sum_by-cons f x xs, sum_by-cons g x x
 pub sum_by_one : {X : Type 0} (xs : List X) → sum_by (λ x. 1) xs ≡ length xs
 sum_by_one [] = refl
 sum_by_one (x ∷ xs) = omega (arith, sum_by-cons (λ x. 1) x xs, sum_by_one xs)
-
--- the sum over a list stays the same if only the term of a number outside the list changes
-sum_by_elsewhere : (f g : ℕ → ℕ) (xs : List ℕ) (s d : ℕ) → ((x : ℕ) → g x ≡ f x + cond (eqb x s) d 0) → count_of s xs ≡ 0 → sum_by g xs ≡ sum_by f xs
-sum_by_elsewhere f g [] s d h c = refl
-sum_by_elsewhere f g (x ∷ xs) s d h c = step (cases_eq x s) (sum_by_elsewhere f g xs s d h)
-  where
-    step : (x ≡ s) ⊎ (x ≡ s → ⊥) → (count_of s xs ≡ 0 → sum_by g xs ≡ sum_by f xs) → sum_by g (x ∷ xs) ≡ sum_by f (x ∷ xs)
-    step (inl e) ih = absurd (let w = rw (eq-eqb x s e) at c in omega (arith, w))
-    step (inr n) ih =
-        let w : 0 + count_of s xs ≡ 0 = rw (ne_eqb x s n) at c in
-        let k : g x ≡ f x = h x ∙ (rw (ne_eqb x s n) (omega arith)) in
-        omega (arith, sum_by-cons f x xs, sum_by-cons g x xs, k, ih (omega (arith, w)))
-
--- the sum over a list grows by d if the term of a number that stands in the list once grows by d
-pub sum_by_more_at : (f g : ℕ → ℕ) (xs : List ℕ) (s d : ℕ) → ((x : ℕ) → g x ≡ f x + cond (eqb x s) d 0) → count_of s xs ≡ 1 → sum_by g xs ≡ sum_by f xs + d
-sum_by_more_at f g [] s d h c = absurd (omega (arith, c))
-sum_by_more_at f g (x ∷ xs) s d h c = step (cases_eq x s) (sum_by_more_at f g xs s d h)
-  where
-    step : (x ≡ s) ⊎ (x ≡ s → ⊥) → (count_of s xs ≡ 1 → sum_by g xs ≡ sum_by f xs + d) → sum_by g (x ∷ xs) ≡ sum_by f (x ∷ xs) + d
-    step (inl e) ih =
-        let w : 1 + count_of s xs ≡ 1 = rw (eq-eqb x s e) at c in
-        let k : g x ≡ f x + d = h x ∙ (rw (eq-eqb x s e) refl) in
-        omega (arith, sum_by-cons f x xs, sum_by-cons g x xs, k, sum_by_elsewhere f g xs s d h (omega (arith, w)))
-    step (inr n) ih =
-        let w : 0 + count_of s xs ≡ 1 = rw (ne_eqb x s n) at c in
-        let k : g x ≡ f x = h x ∙ (rw (ne_eqb x s n) (omega arith)) in
-        omega (arith, sum_by-cons f x xs, sum_by-cons g x xs, k, ih (omega (arith, w)))

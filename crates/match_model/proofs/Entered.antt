@@ -309,19 +309,6 @@ get_or-kept_lists lists rows i h =
     get_or-map (kept_of rows) (enumerate_from 0 lists) i (0, []) [] (omega (arith, length-enumerate_from 0 lists))
     ∙ ap (kept_of rows) (get_or-enumerate_from 0 lists i (0, []) h) ∙ ap (λ n. kept_of rows (n, get_or lists i [])) (zero-add i)
 
--- each filtered list has only items below n and no repeats, if each list does
-pub kept_below : (lists rows : List (List ℕ)) (n : ℕ) → All (λ list. list_all (λ x. ltb x n) list ≡ true) lists → All (λ list. list_all (λ x. ltb x n) list ≡ true) (kept_lists lists rows)
-kept_below lists rows n a = λ i d h.
-    let within : i < length lists = omega (arith, length-kept_lists lists rows) in
-    subst (λ (list : List ℕ). list_all (λ x. ltb x n) list ≡ true) (sym (get_or-kept_lists lists rows i within) ∙ get_or_default (kept_lists lists rows) i [] d h)
-    (list_all-filter (λ x. ltb x n) (λ x. is_listed (list_at rows i) x) (list_at lists i) (a i [] within))
-
-pub kept_distinct : (lists rows : List (List ℕ)) → All (λ list. has_no_repeats list ≡ true) lists → All (λ list. has_no_repeats list ≡ true) (kept_lists lists rows)
-kept_distinct lists rows a = λ i d h.
-    let within : i < length lists = omega (arith, length-kept_lists lists rows) in
-    subst (λ (list : List ℕ). has_no_repeats list ≡ true) (sym (get_or-kept_lists lists rows i within) ∙ get_or_default (kept_lists lists rows) i [] d h)
-    (has_no_repeats-filter (λ x. is_listed (list_at rows i) x) (list_at lists i) (a i [] within))
-
 -- mutual lists have only items below n and no repeats, if the lists have
 pub mutual_below : (mine theirs : List (List ℕ)) (n : ℕ) → All (λ list. list_all (λ x. ltb x n) list ≡ true) mine → All (λ list. list_all (λ x. ltb x n) list ≡ true) (mutual_lists mine theirs)
 mutual_below mine theirs n a = λ i d h.

@@ -2,7 +2,7 @@
 use Rattle.std.proofs.Common.{◌≡◌, ℕ, ◌<◌, ◌≤◌, Bool, true, false, cond, eqb, ltb, List, [], ◌∷◌, length, unwrap_or, refl, sym, ap, ◌∙◌, subst, arith, ◌&&◌, ◌||◌, ⊎_elim}
 use Rattle.std.specs.List.{list_all, All, filter}
 use Rattle.std.proofs.lemmas.Bool.{cases_lt}
-use Rattle.std.proofs.lemmas.List.{length-map, get_or_past, get_or_default, ext_get_or}
+use Rattle.std.proofs.lemmas.List.{length-map, get_or_past, ext_get_or}
 use Rattle.std.proofs.lemmas.List.Sums.{get_or-le-sum_by}
 use Rattle.match_model.specs.Ranking.{is_listed, IsListed}
 use Rattle.match_model.specs.Instance.{IsWellFormed, is_withdrawn, list_at, list_of_programme, list_of_resident, pair_count}
@@ -98,10 +98,6 @@ resident_list_short d r h =
     let one = length_at (resident_lists_left d) (programme_lists_left d) r (length d.quotas) (residents_distinct d h) below in
     let most = h.programmes_within in
     omega (arith, most, programmes_bounded d.limits)
-
-pub resident_lists_short : (d : Draft) → IsDraft d → All (λ (list : List ℕ). length list ≤ MAX_PAIRS) (instance_of d).resident_lists
-resident_lists_short d h = λ r other within.
-    subst (λ (list : List ℕ). length list ≤ MAX_PAIRS) (get_or_default (instance_of d).resident_lists r [] other within) (resident_list_short d r h)
 
 -- the instance has as many residents' lists as the draft
 pub as_many_residents : (d : Draft) → length (instance_of d).resident_lists ≡ length d.resident_lists

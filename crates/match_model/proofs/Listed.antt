@@ -2,12 +2,12 @@
 use mathlib.Core.List.{IsPrefix}
 use Rattle.std.proofs.Common.{◌≡◌, ℕ, zero, suc, ◌+◌, ◌<◌, ◌≤◌, Bool, true, false, cond, eqb, ◌||◌, ◌⊎◌, inl, inr, List, [], ◌∷◌, ◌++◌, length, slice_get, Some, refl, ap, sym, ◌∙◌, subst, arith, one-add, get_or, ap₂, zero-add, add-zero, add_comm}
 use Rattle.std.specs.List.{list_all, sum_by}
-use Rattle.std.proofs.lemmas.Bool.{cases_Bool, cases_lt, cases_eq, eq-eqb, ne_eqb, and_parts, and_cases, and_from}
+use Rattle.std.proofs.lemmas.Bool.{cases_lt, cases_eq, eq-eqb, ne_eqb, and_parts, and_cases, and_from}
 use Rattle.std.proofs.lemmas.Bool.Decides.{nat_tests}
 use Rattle.std.proofs.lemmas.List.Sums.{sum_by-cons}
 use Rattle.std.proofs.lemmas.Option.{get_or_from_slice_get}
-use Rattle.match_model.specs.Ranking.{place, IsListed, is_listed, IsBefore, HasNoRepeats}
-use Rattle.match_model.proofs.Rankings.{is_listed-true, is_listed-false, is_listed_not, is_listed-cons, is_listed-append, is_listed_alone}
+use Rattle.match_model.specs.Ranking.{place, IsListed, is_listed, HasNoRepeats}
+use Rattle.match_model.proofs.Rankings.{is_listed-false, is_listed_not, is_listed-cons, is_listed-append, is_listed_alone}
 use Rattle.match_model.proofs.Prefixes.{prefix_item}
 use Rattle.match_model.proofs.Counts.{sum_below, sum_below_zero, sum_below_same, sum_below_one, count_of, count_of-append, count_of_push, count_of_same}
 
@@ -161,9 +161,6 @@ list_all_fails t (z ∷ zs) e = step (and_cases _ _ e) (list_all_fails t zs)
 pub prefix_listed : (xs ys : List ℕ) (x : ℕ) → IsPrefix xs ys → IsListed xs x → IsListed ys x
 prefix_listed xs ys x h l = let s = slice_get_place xs x l in listed_item ys (place xs x) x (prefix_item xs ys (place xs x) x h s)
 
-pub prefix_place : (xs ys : List ℕ) (x : ℕ) → IsPrefix xs ys → IsListed xs x → place ys x ≡ place xs x
-prefix_place xs ys x h l = subst (λ (t : List ℕ). place t x ≡ place xs x) h.1 (place-append xs h.0 x l)
-
 pub prefix_no_repeats : (xs ys : List ℕ) → IsPrefix xs ys → HasNoRepeats ys → HasNoRepeats xs
 prefix_no_repeats xs ys h n = no_repeats_before xs h.0 (subst HasNoRepeats (sym h.1) n)
 
@@ -179,17 +176,6 @@ place-append_past (z ∷ zs) ys x h = step (cases_eq z x) (place-append_past zs 
     step (inr n) ih =
         let u : is_listed zs x ≡ false = is_listed_not zs x (λ l. is_listed-false (z ∷ zs) x h (let p = place-tail z zs x n in omega (arith, p))) in
         place-tail z (zs ++ ys) x n ∙ (let e = ih u in omega (arith, e))
-
--- a number that stands before an item of the first list in the second list stands in the first list
-pub prefix_before : (xs ys : List ℕ) (w x : ℕ) → IsPrefix xs ys → IsListed xs x → IsBefore ys w x → IsListed xs w
-prefix_before xs ys w x h l b = step (cases_Bool (is_listed xs w))
-  where
-    step : (is_listed xs w ≡ true) ⊎ (is_listed xs w ≡ false) → IsListed xs w
-    step (inl e) = is_listed-true xs w e
-    step (inr e) =
-        let p : place ys w ≡ length xs + place h.0 w = subst (λ (t : List ℕ). place t w ≡ length xs + place h.0 w) h.1 (place-append_past xs h.0 w e) in
-        let q = prefix_place xs ys x h l in
-        absurd (omega (arith, p, q, l, b))
 
 -- if f is 0 outside a list without repeats, its sum over the list is its sum over all numbers below n
 pub sum_by_listed : (f : ℕ → ℕ) (xs : List ℕ) (n : ℕ) → HasNoRepeats xs

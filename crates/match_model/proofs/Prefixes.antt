@@ -1,7 +1,7 @@
 -- Lists that are the beginning of another list, and induction on the last item of a list.
 use mathlib.Core.List.{IsPrefix}
 use Rattle.std.proofs.Common.{◌≡◌, ℕ, zero, suc, ◌<◌, ◌≤◌, ◌⊎◌, inl, inr, List, [], ◌∷◌, ◌++◌, length, take, drop, slice_get, Some, refl, ap, ap₂, sym, ◌∙◌, subst, append_assoc, append-nil, arith, length-append}
-use Rattle.std.proofs.lemmas.List.{take_at, take_all, take-append-drop}
+use Rattle.std.proofs.lemmas.List.{take_at, take_all}
 use Rattle.std.proofs.lemmas.Option.{same_Some}
 
 -- induction on lists that grow by one item at the end
@@ -11,11 +11,6 @@ push_induction {X} P start step xs = from [] xs start
     from : (xs ys : List X) → P xs → P (xs ++ ys)
     from xs [] h = rw append-nil h
     from xs (y ∷ ys) h = rw append_assoc at (from (xs ++ y ∷ []) ys (step xs y h))
-
-pub slice_get-append_left : {X : Type 0} (xs ys : List X) (i : ℕ) → i < length xs → slice_get (xs ++ ys) i ≡ slice_get xs i
-slice_get-append_left [] ys i l = absurd (omega arith)
-slice_get-append_left (x ∷ xs) ys zero l = refl
-slice_get-append_left (x ∷ xs) ys (suc i) l = slice_get-append_left xs ys i (omega arith)
 
 pub slice_get_last : {X : Type 0} (xs : List X) (y : X) → slice_get (xs ++ y ∷ []) (length xs) ≡ Some y
 slice_get_last [] y = refl
@@ -48,14 +43,8 @@ slice_get_drop (suc n) (x ∷ xs) = slice_get_drop n xs
 pub prefix_nil : {X : Type 0} (ys : List X) → IsPrefix [] ys
 prefix_nil ys = (ys, refl)
 
-pub prefix_same : {X : Type 0} (xs ys : List X) → xs ≡ ys → IsPrefix xs ys
-prefix_same xs ys e = ([], append-nil xs ∙ e)
-
 pub prefix_extend : {X : Type 0} (xs ys zs : List X) → IsPrefix xs ys → IsPrefix xs (ys ++ zs)
 prefix_extend xs ys zs h = (h.0 ++ zs, sym (append_assoc xs h.0 zs) ∙ ap (λ t. t ++ zs) h.1)
-
-pub prefix_trans : {X : Type 0} (xs ys zs : List X) → IsPrefix xs ys → IsPrefix ys zs → IsPrefix xs zs
-prefix_trans xs ys zs h k = subst (λ t. IsPrefix xs t) k.1 (prefix_extend xs ys k.0 h)
 
 pub prefix_next : {X : Type 0} (xs ys : List X) (y : X) → IsPrefix xs ys → slice_get ys (length xs) ≡ Some y → IsPrefix (xs ++ y ∷ []) ys
 prefix_next [] [] y h e = absurd (cc)
@@ -72,9 +61,6 @@ prefix_length xs ys h = omega (arith, length-append xs h.0, ap length h.1)
 
 pub prefix_take : {X : Type 0} (xs ys : List X) → IsPrefix xs ys → take (length xs) ys ≡ xs
 prefix_take xs ys h = ap (λ t. take (length xs) t) (sym h.1) ∙ take_at xs h.0 (length xs) refl
-
-pub prefix_drop : {X : Type 0} (xs ys : List X) → IsPrefix xs ys → xs ++ drop (length xs) ys ≡ ys
-prefix_drop xs ys h = ap (λ t. t ++ drop (length xs) ys) (sym (prefix_take xs ys h)) ∙ take-append-drop (length xs) ys
 
 pub prefix_whole : {X : Type 0} (xs ys : List X) → IsPrefix xs ys → length ys ≤ length xs → xs ≡ ys
 prefix_whole xs ys h l = sym (prefix_take xs ys h) ∙ take_all (length xs) ys l

@@ -1,10 +1,9 @@
 -- The answers that a resident gets, after the answer about one more programme.
-use Rattle.std.proofs.Common.{◌≡◌, ℕ, ◌<◌, inl, inr, List, [], ◌∷◌, ◌++◌, length, Option, Some, None, true, refl, sym, ap, ◌∙◌, subst, arith, rules}
+use Rattle.std.proofs.Common.{◌≡◌, ℕ, ◌<◌, inl, inr, List, [], ◌∷◌, ◌++◌, length, Option, Some, None, true, refl, sym, ap, ◌∙◌, subst, rules}
 use Rattle.std.specs.Prelude.{nat_lt, slice_get}
 use Rattle.std.specs.List.{list_all}
 use Rattle.std.proofs.lemmas.Option.{same_Some, get_or_from_slice_get}
 use Rattle.docket_names.proofs.WordFacts.{list_all_true_at}
-use Rattle.match_model.specs.Instance.{list_at, IsResident}
 use Rattle.match_model.specs.Written.{Written, AreWritten}
 use Rattle.match_model.proofs.Prefixes.{slice_get_push_parts}
 use Rattle.match_reasons.specs.declared.reason.Why.{Why}
@@ -12,7 +11,7 @@ use Rattle.docket.specs.Contents.{Contents, draft_of}
 use Rattle.docket.specs.Whole.{IsWhole}
 use Rattle.docket.specs.WithLists.{IsReadWithin}
 use Rattle.match_model.specs.declared.limits.Limits.{Limits}
-use Rattle.reasons_text.specs.Answers.{AreFirst, AreOfRecord, CaseParts, IsAnswer, IsCase}
+use Rattle.reasons_text.specs.Answers.{AreFirst, CaseParts, IsAnswer, IsCase}
 use Rattle.reasons_text.specs.Faults.{IsCaseFaultWithin, IsOfNoCase}
 use Rattle.reasons_text.specs.declared.fault.WhyFault.{WhyFault}
 use Rattle.reasons_text.specs.declared.fault.WhyFault.TheVariants.{Docket, Reading, NoSheet, BadKey, DoubledKey, NoResident, NoProgramme, ManyResidents, ManyProgrammes, Records, EmptySheet}
@@ -69,10 +68,6 @@ pub below_at : (n : ℕ) (xs : List ℕ) (i p : ℕ) → i < length xs → list_
 below_at n xs i p lt all at =
     let below : nat_lt p n ≡ true = subst (λ x. nat_lt x n ≡ true) (get_or_from_slice_get xs i p 0 at) (list_all_true_at (λ x. nat_lt x n) xs i 0 lt all) in
     search (rules, below)
-
--- a resident's list names the programmes on the resident's R record
-pub of_record : (d : Contents) (written : Written) (r : ℕ) → IsWhole d → IsResident d.instance r → AreOfRecord d written r (list_at written.resident_lists r)
-of_record d written r whole within limits bytes read = read.names r (let many = whole.residents in omega (arith, many))
 
 -- if the key has no names, all names are those of the docket
 pub names_own : (d e : Contents) (r p : SideNames) → d ≡ e → r ≡ no_names → p ≡ no_names

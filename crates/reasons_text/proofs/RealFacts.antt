@@ -1,8 +1,8 @@
 -- The real names that the rows of a key give, one row after another.
 use Rattle.std.proofs.Common.{◌≡◌, ◌<◌, ◌≤◌, ◌+◌, ◌∙◌, ℕ, List, [], ◌∷◌, ◌++◌, Option, Some, None, Bool, true, false, length, map, drop, take, get_or, refl, sym, ap, arith, append_assoc, take_all}
-use Rattle.std.specs.Prelude.{◌==◌, find, is_none, option_map, replicate, slice_set, if◌then◌else◌}
+use Rattle.std.specs.Prelude.{◌==◌, find, is_none, option_map, slice_set, if◌then◌else◌}
 use Rattle.std.specs.Option.{option_or}
-use Rattle.std.proofs.lemmas.List.{get_or-replicate, get_or-set_other, get_or-set_same, get_or-map, length-map, length-replicate, length-set, length-take-le, take-append-drop, take_more}
+use Rattle.std.proofs.lemmas.List.{get_or-set_other, get_or-set_same, get_or-map, length-map, length-set, length-take-le, take-append-drop, take_more}
 use Rattle.std.proofs.lemmas.Bool.{eqb-false, eqb-true}
 use Rattle.std.proofs.lemmas.List.Folds.{find-append}
 use Rattle.docket.specs.Contents.{Contents}
@@ -15,13 +15,6 @@ use Rattle.reasons_text.proofs.KeyFacts.{none_added, one_added}
 use Rattle.reasons_text.specs.declared.real_names.NamesFault.{NamesFault}
 use Rattle.reasons_text.specs.declared.side.Side.{Side}
 use Rattle.reasons_text.specs.declared.side.Side.TheVariants.{Programmes, Residents}
-
--- before the first row of a key no member is named
-pub named_none : (d : Contents) (side : Side) (count : ℕ) → count ≡ member_count d side → AreNamed d side [] (replicate count None)
-named_none d side count e = record {
-  each = length-replicate count None ∙ e;
-  are = λ n within. get_or-replicate count n None None (omega (arith, within, e));
-}
 
 or_nothing : (o : Option Fields) → option_or o None ≡ o
 or_nothing None = refl

@@ -43,9 +43,6 @@ files_push_from kind k (s ∷ rs) r =
 pub files_push : (kind : Kind) (rs : List Receipt) (r : Receipt) → files_from kind 0 (rs ++ r ∷ []) ≡ files_from kind 0 rs ++ (if is_of kind r then length rs ∷ [] else [])
 files_push kind rs r = let same : 0 + length rs ≡ length rs = omega arith in rw (← same) (files_push_from kind 0 rs r)
 
-pub with_true : (a : Bool) → (true || a) ≡ true
-with_true a = refl
-
 or_swap : (a b : Bool) → (a || b) ≡ (b || a)
 or_swap true true = refl
 or_swap true false = refl

@@ -1,7 +1,7 @@
 -- Places on lists, and the residents of a programme.
-use Rattle.std.proofs.Common.{◌≡◌, ◌<◌, ◌^◌, IfSome, ℕ, zero, suc, ◌+◌, List, [], ◌∷◌, ◌++◌, length, map, take, Option, Some, None, nat_lt, Bool, true, false, refl, sym, ap, ◌∙◌, arith, append-nil, append_assoc, zero-add, if◌then◌else◌}
+use Rattle.std.proofs.Common.{◌≡◌, ◌<◌, ◌^◌, IfSome, ℕ, zero, suc, ◌+◌, List, [], ◌∷◌, ◌++◌, length, map, Option, Some, None, nat_lt, Bool, true, false, refl, ap, ◌∙◌, arith, append-nil, append_assoc, zero-add, if◌then◌else◌}
 use Rattle.std.specs.List.{flat_map, range_with_len}
-use Rattle.std.specs.Prelude.{bytes_eq, slice_index_or}
+use Rattle.std.specs.Prelude.{bytes_eq}
 use denote.Ref.{Bor}
 use Rattle.std.specs.Global.{Vec}
 use Rattle.std.proofs.lemmas.Grind.{flat_map-append}
@@ -17,14 +17,6 @@ use Rattle.receipt_check.proofs.Steps.{range_next}
 pub place_below : (names : Cells) (name : List ℕ) (k : ℕ) → number_in names name ≡ Some k → k < length names
 unfolding number_in
 place_below names name k found = (position-Some (bytes_eq name) names k [] found).0
-
-place_bounded : (names : Cells) (name : List ℕ) (n : ℕ) (place : Option ℕ) → length names < n → number_in names name ≡ place → IfSome place (λ k. k < n)
-place_bounded names name n None small found = record {}
-place_bounded names name n (Some k) small found = let below = place_below names name k found in omega (arith, below, small)
-
--- the place at which a name is found among fewer than 2 ^ 63 names is below 2 ^ 63
-pub place_small : (names : Cells) (name : List ℕ) → length names < 2 ^ 63 → IfSome (number_in names name) (λ k. k < 2 ^ 63)
-place_small names name small = place_bounded names name (2 ^ 63) (number_in names name) small refl
 
 -- the later of two places below 2 ^ 63 is below 2 ^ 63
 pub later_small : (p q : Option ℕ) → IfSome p (λ k. k < 2 ^ 63) → IfSome q (λ k. k < 2 ^ 63) → IfSome (later p q) (λ k. k < 2 ^ 63)

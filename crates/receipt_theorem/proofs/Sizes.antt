@@ -1,14 +1,13 @@
 -- The greatest length of a receipt.
-use Rattle.std.proofs.Common.{◌≡◌, ℕ, zero, suc, ◌+◌, ◌*◌, ◌/◌, ◌%◌, ◌^◌, ◌<◌, ◌≤◌, List, [], ◌∷◌, ◌++◌, length, map, slice_get, Option, Some, None, refl, sym, ap, ◌∙◌, arith, rules, subst, inl, inr}
+use Rattle.std.proofs.Common.{◌≡◌, ℕ, zero, suc, ◌+◌, ◌*◌, ◌/◌, ◌^◌, ◌<◌, ◌≤◌, List, [], ◌∷◌, ◌++◌, length, slice_get, Option, Some, None, refl, ap, ◌∙◌, arith, rules}
 use Rattle.std.specs.List.{All, cons_option}
 use Rattle.std.proofs.Math.Nat.{pow-suc}
 use Rattle.std.proofs.lemmas.List.{length-append}
 use Rattle.std.proofs.lemmas.List.Elements.{All-head, All-tail}
 use Rattle.std.proofs.lemmas.Option.{slice_get_within}
-use Rattle.std.proofs.lemmas.Bool.{cases_lt}
 use Rattle.seal.specs.Tree.{pair_up, path_from, sibling}
 use Rattle.seal.proofs.Parents.{length-pair_up}
-use Rattle.receipt_check.specs.Rows.{Cells, line, lines, more_fields}
+use Rattle.receipt_check.specs.Rows.{Cells, line, more_fields}
 
 abbrev pub AreShort : ℕ → Cells → Type 0
 AreShort most fields = All (λ field. length field ≤ most) fields
@@ -30,15 +29,6 @@ line_short most (field ∷ rest) h =
     let a = length-append field (more_fields rest ++ 10 ∷ []) in
     let b = length-append (more_fields rest) (10 ∷ []) in
     search (rules, one, more, a, b)
-
--- the length of rows as they are printed, if none of them is longer than a given length
-pub lines_short : (most : ℕ) (rows : List Cells) → All (λ row. length (line row) ≤ most) rows → length (lines rows) ≤ length rows * most
-lines_short most [] h = omega arith
-lines_short most (row ∷ rows) h =
-    let one = All-head (λ r. length (line r) ≤ most) row rows h in
-    let more = lines_short most rows (All-tail (λ r. length (line r) ≤ most) row rows h) in
-    let size = length-append (line row) (lines rows) in
-    search (rules, one, more, size)
 
 -- the path of a leaf has at most k hashes, if there are at most 2 ^ k leaves
 pub path_short : (levels k i : ℕ) (hashes : List (List ℕ)) → i < length hashes → length hashes ≤ 2 ^ k → length (path_from levels i hashes) ≤ k

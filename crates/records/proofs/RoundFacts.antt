@@ -1,7 +1,7 @@
 -- Records that are written line by line are read back as the same records.
-use Rattle.std.proofs.Common.{◌≡◌, ◌==◌, ◌+◌, ◌∷◌, [], ℕ, List, false, length, ◌++◌, refl, sym, ap, ◌∙◌, append_assoc, Option, Some, None, inl, inr, arith}
+use Rattle.std.proofs.Common.{◌≡◌, ◌==◌, ◌+◌, ◌∷◌, [], ℕ, List, false, length, ◌++◌, refl, ap, ◌∙◌, Some, inl, inr, arith}
 use Rattle.std.specs.Prelude.{⊤}
-use Rattle.std.proofs.lemmas.Bool.{cases_Bool, eqb-true, ne_eqb}
+use Rattle.std.proofs.lemmas.Bool.{cases_Bool, ne_eqb}
 use Rattle.csv.specs.Machine.{next_record}
 use Rattle.csv.specs.Reading.{default_config, strip_bom}
 use Rattle.csv.specs.Writing.{comma, default_writer, is_blank, needs_quotes, row_text}
@@ -82,8 +82,3 @@ strip_lines (row ∷ rest) h = let l = h.0 in rw l.is (strip_line l.letter l.res
 pub lines_round : (rows : List Fields) → AreLettered rows → rows_of (lines rows) ≡ rows
 unfolding rows_by
 lines_round rows h = rw (strip_lines rows h) (lines_read rows h)
-
-pub lines-append : (a b : List Fields) → lines (a ++ b) ≡ lines a ++ lines b
-unfolding lines
-lines-append [] b = refl
-lines-append (row ∷ rest) b = rw (lines-append rest b) (sym (append_assoc (line row) (lines rest) (lines b)))

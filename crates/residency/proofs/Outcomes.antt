@@ -1,7 +1,6 @@
 -- The result of a closed run, and what is written about it.
-use Rattle.std.proofs.Common.{◌≡◌, ℕ, List, ◌++◌, slice_index_or, Option, Some, None, refl, sym, ap, ◌∙◌, append_assoc}
+use Rattle.std.proofs.Common.{◌≡◌, ℕ, List, slice_index_or, Option, refl, sym, ◌∙◌}
 use Rattle.std.specs.List.{All}
-use Rattle.std.specs.Io.KnownBytes.{Appends}
 use Rattle.std.proofs.lemmas.Option.{slice_get-get_or}
 use Rattle.match_model.specs.Instance.{Instance, IsInstance}
 use Rattle.exchange_core.specs.declared.event.Event.{Event}
@@ -30,13 +29,6 @@ names_members inst cap j legal = λ k d within. named (slice_index_or j k d) (me
     named (Answer r p k) h = record { programme = h.0; resident = h.1 }
     named (Hear p r k) h = record { programme = h.0; resident = h.1 }
     named Close h = tt
-
--- two texts that were appended one after another are appended as one text
-pub appends_both : (old mid new : Option (List ℕ)) (xs ys : List ℕ) → Appends old mid xs → Appends mid new ys → Appends old new (xs ++ ys)
-appends_both None mid new xs ys first second = tt
-appends_both (Some o) None new xs ys first second = absurd first
-appends_both (Some o) (Some m) None xs ys first second = absurd second
-appends_both (Some o) (Some m) (Some n) xs ys first second = second ∙ ap (λ (zs : List ℕ). zs ++ ys) first ∙ append_assoc o xs ys
 
 -- a stable assignment of a docket's instance is a sheet for the docket
 pub sheet_of : (d : Contents) (m : List (Option ℕ)) → IsWhole d → IsInstance d.instance → IsStable d.instance m → IsSheetOf d m

@@ -74,12 +74,6 @@ path_on i (a ∷ rest) w l =
     ap (cons_option (sibling i (a ∷ rest)))
     (sym (path_from_enough (length (pair_up (a ∷ rest))) (length rest) (i / 2) (pair_up (a ∷ rest)) (omega arith) (omega arith) (omega arith)))
 
-pub path_at_top : (i : ℕ) (hs : List (List ℕ)) → i < length hs → length hs ≤ 1 → path_of i hs ≡ []
-path_at_top i [] w l = refl
-path_at_top zero (h ∷ []) w l = refl
-path_at_top (suc i) (h ∷ []) w l = absurd (omega arith)
-path_at_top i (a ∷ b ∷ rest) w l = absurd (omega arith)
-
 one_up : (n : ℕ) (h : List ℕ) → levels_up n (h ∷ []) ≡ h ∷ []
 one_up zero h = refl
 one_up (suc n) h = one_up n h
@@ -113,10 +107,6 @@ pub last_is_root : (hs : List (List ℕ)) (d : List ℕ) → 0 < length (all_lev
     get_or (all_levels hs) (length (all_levels hs) - 1) d ≡ root hs
 last_is_root [] d l = absurd (omega arith)
 last_is_root (h ∷ rest) d l = (last_is_top (length (h ∷ rest)) (h ∷ rest) d (omega arith) (omega arith)).1
-
-pub no_leaves : (hs : List (List ℕ)) → length (all_levels hs) ≡ 0 → hs ≡ []
-no_leaves [] e = refl
-no_leaves (h ∷ rest) e = absurd (let l = length-all_levels (h ∷ rest) in omega arith)
 
 -- the node that is read at the end of the list of all levels is the root
 pub last_read : (nodes whole hs : List (List ℕ)) (x : List ℕ) → nodes ≡ whole → whole ≡ all_levels hs →

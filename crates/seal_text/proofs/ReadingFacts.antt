@@ -1,5 +1,5 @@
 -- The result of reading a docket's and a sheet's file.
-use Rattle.std.proofs.Common.{◌≡◌, ℕ, List, [], Option, Some, refl, ◌∙◌, inl, inr}
+use Rattle.std.proofs.Common.{◌≡◌, ℕ, List, [], Option, Some, refl, inl, inr}
 use Rattle.std.specs.Prelude.{unwrap_or}
 use Rattle.docket.specs.Contents.{Contents}
 use Rattle.docket.specs.Parts.{IsInFilesWithLists}
@@ -38,12 +38,6 @@ key_unmade wanted docket sheet key d (seal.Secret fault) read h = h
 key_unmade wanted docket sheet key d (seal.Files fault) read h = absurd h
 key_unmade wanted docket sheet key d (seal.Key fault) read h = record { d = d; read = read; is_fault = h }
 key_unmade wanted docket sheet key d seal.Unstable read h = absurd h
-
-pub key_untold : (wanted : Wanted) (c : CaseParts) (key : Option (List ℕ)) (fault : SealFault) → IsOfKey key (IsNamesFault c.docket) fault → IsUntold wanted c key fault
-key_untold wanted c key (seal.Secret fault) h = h
-key_untold wanted c key (seal.Files fault) h = absurd h
-key_untold wanted c key (seal.Key fault) h = h
-key_untold wanted c key seal.Unstable h = absurd h
 
 -- if there is no text for a case in some files, there is no text for these files, for the same
 -- reason

@@ -46,6 +46,11 @@ def name_of(cell: str) -> str:
     return " ".join(cell.split()) if cell.isascii() else tidy(cell.translate(UNSEEN))
 
 
+def no_cell(text: str) -> str:
+    """The first character of a text that no cell has: one that is no letter, or that nobody sees; or no text."""
+    return no_letter(text) or next((c for c in text if ord(c) in UNSEEN), "")
+
+
 def sep_line(text: str) -> Tuple[Optional[str], str]:
     """What a first line `sep=;` names, and the text after it."""
     found = re.match(r'"?sep=([^"\r\n])"?[,;\t]*(\r\n|\r|\n|\Z)', text, re.IGNORECASE)

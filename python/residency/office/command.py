@@ -315,9 +315,9 @@ def refuse_one_table(path: str, data: bytes) -> None:
 
 
 def wishes_of(given: argparse.Namespace, chosen: Settings, title: str, columns: Sequence[str], language: Language = Language(),
-              before: Optional[rounds.Before] = None) -> Wishes:
+              before: Optional[rounds.Before] = None, is_sealed: bool = False) -> Wishes:
     language = language_of(chosen, language)
-    return Wishes(title or language.phrases().say("title"), given.date or date.today(), chosen.order, template_of(given.template, columns),
+    return Wishes(title or language.phrases().say("title"), given.date or date.today(), chosen.order, template_of(given.template, columns, is_sealed),
                   given.timeout, chosen.cut_offs, given.readable, language, chosen.texts(), b"" if before is None else before.earlier)
 
 
@@ -349,16 +349,16 @@ def text_of(path: str) -> str:
     return text
 
 
-def template_of(path: Optional[str], columns: Sequence[str]) -> Templates:
+def template_of(path: Optional[str], columns: Sequence[str], is_sealed: bool) -> Templates:
     """A template's file, or a folder's by the standings that they are for, tried before anything else is done; `columns` are those
     that are kept."""
     if path is None or not os.path.isdir(path):
-        return None if path is None else checked_template(text_of(path), columns, path)
+        return None if path is None else checked_template(text_of(path), columns, path, is_sealed)
     names = [*(standing.key for standing in Standing), OTHERS, PROGRAMME]
     found = {name: os.path.join(path, f"{name}.txt") for name in names if os.path.exists(os.path.join(path, f"{name}.txt"))}
     if not found:
         raise OfficeError("template.none", 3, path, files=[f"{name}.txt" for name in names])
-    return {name: checked_template(text_of(template), columns, template) for name, template in found.items()}
+    return {name: checked_template(text_of(template), columns, template, is_sealed) for name, template in found.items()}
 
 
 def tables_of(given: argparse.Namespace, chosen: Settings, before: Optional[rounds.Before] = None) -> Tuple[Sequence[Table], Market]:
@@ -449,7 +449,7 @@ def run_sealed(given: argparse.Namespace, sealed: running.Kept, before: Optional
             return failed(said_otherwise(error, error.faults, given.all), error.status)
         lines, details = describe(tables, market), steps.details_of(tables[1], market)
         manifest = from_of(sealed, settings.values_of(chosen))
-    wishes = wishes_of(given, chosen, chosen.title or sealed.title(), details.columns, sealed.language(), before)
+    wishes = wishes_of(given, chosen, chosen.title or sealed.title(), details.columns, sealed.language(), before, True)
     result, roots = written_sealed(wishes, sealed, details, manifest, before, given.out, begun(sealed.market, lines or [national.NOTE]))
     for line in lines + told(given.out, result, wishes) + published(roots):
         say(line)
@@ -527,7 +527,8 @@ def written_without(given: argparse.Namespace, chosen: Settings, done: steps.Wit
     if done.matched is None:
         wishes = Wishes(kept.title(), given.date or date.today(), timeout=given.timeout, language=language_of(chosen, kept.language()))
         return wishes, steps.seal(out, done.market, kept.details, wishes, from_of(kept))
-    wishes = replace(wishes_of(given, chosen, chosen.title or kept.title(), kept.details.columns, kept.language()), earlier=kept.earlier())
+    wishes = wishes_of(given, chosen, chosen.title or kept.title(), kept.details.columns, kept.language(), is_sealed=kept.is_sealed())
+    wishes = replace(wishes, earlier=kept.earlier())
     return wishes, steps.write(out, done.matched, wishes, from_of(kept), done.secret(), changes=done.changes)
 
 
@@ -549,7 +550,7 @@ def letters(given: argparse.Namespace) -> int:
     if given.out is not None:
         writing.refuse(given.out)
     run_before = Run(given.folder)
-    template = template_of(given.template, run_before.details.columns)
+    template = template_of(given.template, run_before.details.columns, run_before.is_sealed())
     chosen = settings_of(given)
     written = steps.letters(run_before, template, given.date, chosen.title, language_of(chosen, run_before.language()), chosen.texts())
     if given.preview is not None:

@@ -58,11 +58,11 @@ def checked_template(text: str, columns: Sequence[str] = (), at: str = "", is_se
         for found in re.finditer(r"\$(?:(\$)|(\w+)|\{(\w+)\}|)", line):
             name = found.group(2) or found.group(3)
             if not found.group(1) and name not in known:
-                raise OfficeError("template.field", 3, "", "template", number, text=found.group(0), fields=known)
+                raise OfficeError("template.field", 3, at, "template", number, text=found.group(0), fields=known)
             if is_sealed and name == UNSALTED:
-                raise OfficeError("template.unsalted", 3, "", "template", number, text=UNSALTED)
+                raise OfficeError("template.unsalted", 3, at, "template", number, text=UNSALTED)
     if not text.strip():
-        raise OfficeError("template.empty", 3, "", "template")
+        raise OfficeError("template.empty", 3, at, "template")
     return "\n".join(lines)
 
 

@@ -1,7 +1,7 @@
 """A run: from a market to a folder with all that an office, an auditor and each member wants of its match."""
 from dataclasses import dataclass, field
 from datetime import date
-from typing import Any, Callable, Dict, List, Mapping, Optional, Sequence, TypeVar
+from typing import Any, Callable, Dict, Iterable, List, Mapping, Optional, Sequence, TypeVar
 
 from ..errors import DocketFault
 from ..key import read_key, write_key
@@ -10,6 +10,7 @@ from ..names import PROGRAMME, RESIDENT, Names
 from ..passes import NATIONAL
 from ..program import DEFAULT_TIMEOUT, run_program
 from . import folder, public, rosters, rounds, seal
+from .cells import no_cell
 from .faults import OfficeError
 from .folder import Draft, Results, digest, file_names
 from .letters import Letters, Templates
@@ -172,7 +173,14 @@ class Kept:
         names = self.sound(folder.KEY, read_key, data)
         if digest(data) != wanted and digest(write_key(names)) != wanted:
             raise OfficeError("folder.other-key", 3, self.at, folder.KEY)
+        self.refuse_odd(folder.KEY, (text for member in names.members() for text in (member.name, member.id)))
         return names
+
+    def refuse_odd(self, name: str, texts: Iterable[str]) -> None:
+        """OfficeError for a text of a file with a character that no table brings there: it would come into letters."""
+        for text in texts:
+            if letter := no_cell(text):
+                raise OfficeError("folder.no-letter", 3, self.at, name, text=text, letter=letter)
 
     def is_sealed(self) -> bool:
         """Whether the folder was sealed."""
@@ -195,7 +203,10 @@ class Kept:
         if not self.results.manifest.get("details"):
             return Details()
         is_matched = self.is_matched() or not self.is_sealed()
-        return rosters.details_of(self.results.checked(folder.MATCHES if is_matched else folder.DETAILS), self.names, is_matched)
+        name = folder.MATCHES if is_matched else folder.DETAILS
+        details = rosters.details_of(self.results.checked(name), self.names, is_matched)
+        self.refuse_odd(name, (*details.columns, *details.families.values(), *(cell for cells in details.kept.values() for cell in cells)))
+        return details
 
     def day(self) -> date:
         try:

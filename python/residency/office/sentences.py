@@ -152,6 +152,7 @@ SENTENCES: Dict[str, Sentence] = {
     "file.set": lambda values: f"its character set isn't known: in {values['title']} it has {Told(values['words']):30}; save the table as UTF-8, or "
                                f"name its set (--encoding {values['table']}=SET): " + "; ".join(
                                    f"{name} has {Told(names):30}" for name, names in values["sets"]),
+    "file.no-sheet": lambda values: f"no sheet is named {Told(values['sheet'])}; there is {few(values['sheets']) if values['sheets'] else 'none'}",
     "file.some-ids": lambda values: (f"{values['count']:,} of {values['of']:,} {values['owners']}s have" if values["count"] > 1 else
                                      f"{Told(values['name'])} has") + " no ID; every row needs one once one has it",
     "file.phrase-values": lambda values: f"{Told(values['name'])} has " + (f"the values {', '.join(values['values'])}" if values["values"]
@@ -175,9 +176,8 @@ DESK: Dict[str, Sentence] = {
 # What can't be done, by its code; `at` is the folder or file that it is about, and `table` the file in that folder.
 ERRORS: Dict[str, Sentence] = {
     **TEXTS["ERRORS"],
-    "template.field": lambda values: f"the template, line {values['row']}: {Told(values['text'])} is none of ${', $'.join(values['fields'])}; "
-                                     "write $$ for the sign itself",
-    "template.no-letter": lambda values: f"{Told(values['at'] or 'the template', MOST_OF_PATH)}, line {values['row']}: the character {Told(values['letter'])} is no letter",
+    "template.field": lambda values: f"{Told(values['at'], MOST_OF_PATH)}, line {values['row']}: {Told(values['text'])} is none of "
+                                     f"${', $'.join(values['fields'])}; write $$ for the sign itself",
     "member.several": several,
     "member.nobody": nobody,
     "member.other-side": other_side,
@@ -205,7 +205,8 @@ def said_by(error: Exception) -> str:
     if not isinstance(error, OfficeError):
         return str(error)
     fault = error.fault
-    said = as_sentence(ERRORS[fault.code], {**fault.values, "at": error.at, "table": fault.table, "row": fault.row})
+    at = error.at or ("the template" if fault.kind == "template" else "")
+    said = as_sentence(ERRORS[fault.code], {**fault.values, "at": at, "table": fault.table, "row": fault.row})
     return f"{shown(error.at, MOST_OF_PATH)}: {said}" if error.at and fault.kind in ("member", "setting") else said
 
 

@@ -57,12 +57,15 @@ def own_lines(text: str, label: str, faults: Faults) -> Iterator[Tuple[int, str,
 
 
 def refuse_odd(said: Dict[str, Any], at: str = "") -> None:
-    """OfficeError for a text of an office's own with a character that is no letter, among settings by their names, or in a manifest."""
+    """OfficeError for a text with a character that is no letter, among settings by their names, or in a manifest: one of an office's own,
+    or of how its tables were read."""
     reading = said.get("reading")
-    parts = (said, said.get("letter"), reading.get("match") if isinstance(reading, dict) else None)
-    for name, text in ((name, part.get(name)) for part in parts if isinstance(part, dict) for name in ("title", *TEXTS)):
-        if isinstance(text, str) and (letter := no_letter(text)):
-            raise OfficeError("setting.no-letter", 3, at, name=name, letter=letter)
+    parts = [{name: part.get(name) for name in ("title", *TEXTS)} for part in (said, said.get("letter")) if isinstance(part, dict)]
+    parts += filter(lambda part: isinstance(part, dict), reading.values() if isinstance(reading, dict) else ())
+    for name, value in (each for part in parts for each in part.items()):
+        for text in value if isinstance(value, list) else [value]:
+            if isinstance(text, str) and (letter := no_letter(text, "\t" if name == "delimiter" else "")):
+                raise OfficeError("setting.no-letter", 3, at, name=name, letter=letter)
 
 
 def bytes_of(path: str) -> bytes:

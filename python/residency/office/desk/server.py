@@ -255,6 +255,6 @@ class Server:
             settings = self.desk.settings if found is None else from_values(found)
         except ValueError as error:
             raise Refused(400, f"there is no such setting: {error}") from None
-        refuse_odd(vars(settings))
+        refuse_odd({"reading": found})
         self.desk.settings = settings
         return getattr(self.desk, name)(Said(said), asked.tell)
