@@ -3,7 +3,6 @@ mod MeantFacts
 mod AskedFacts
 mod LineFacts
 mod NobodyFacts
-mod FaultFacts
 mod ShownFacts
 mod WhomFacts
 mod KeyFacts
