@@ -1,17 +1,20 @@
 """Texts of the office's own: one with a character that is no letter is refused where it comes in, and nothing is written."""
+import contextlib
+import csv
 import hashlib
+import io
 import json
 import os
 import shutil
 from pathlib import Path
-from typing import Sequence
+from typing import Iterator
 
 import desks
 from residency.office.cells import Cells
 from residency.office.faults import Faults
 from residency.office.phrases import FOLDER
 from residency.office.settings import Settings
-from support import PROGRAMMES, RESIDENTS, OfficeTest, office
+from support import OfficeTest, office
 
 # What none may have, each as an error shows it: controls, what is for private use, and what is no character.
 ODD = {"\x1b": r"\x1b", "\x07": r"\x07", "\x0c": r"\x0c", "\x7f": r"\x7f", "\x85": r"\x85", "\ue000": r"\ue000", "\ufdd0": r"\ufdd0"}
@@ -143,39 +146,38 @@ class Own(OfficeTest):
 
     def test_names_of_a_folder(self) -> None:
         """Its names, IDs and kept columns, as another may have written them, with their hashes: they would come into letters."""
-        room, new = self.folder, self.folder / "new"
-        lines = RESIDENTS.split("\n")
-        residents = "\n".join(line and f"{line},{at or 'Email'},{at and f'F{at}' or 'Family name'},{at and f'I{at}' or 'ID'}" for at, line in enumerate(lines))
-        by_id = [line.replace("Ana Silva", "I1").replace("Kim Lee", "I2").replace("Zoë Brontë", "I3").replace("Jürgen Groß", "I4").replace("Omar Haddad", "I5")
-                 for line in PROGRAMMES.split("\n")]
-        at = self.run_tables("\n".join(by_id), residents, "out", "--keep", "Email")
-        self.assertEqual(office("seal", *self.tables("\n".join(by_id), residents), "--keep", "Email", "--out", room / "sealed").status, 0)
-        words = (["letters", at, "--out", new], ["letters", at, "--preview", "1"], ["withdraw", at, "Rosa Rossi", "--out", new],
-                 ["why", at, "Rosa Rossi", "--letter"], ["compare", at, at], ["next", at, "--out", new])
-        sealed = (["run", room / "sealed", "--out", new], ["withdraw", room / "sealed", "Rosa Rossi", "--out", new])
+        match, sealed, new = self.folder / "match", self.folder / "sealed", self.folder / "new"
+        programmes = "Programme,Places,Rank 1\nNorth,1,I 1\n"
+        residents = "ID,First name,Family name,Email,Rank 1\nI 1,Zoë,Brontë,me@work,North\nI 2,Kim,Lee,,\n"
+        for command, out in (("run", match), ("seal", sealed)):
+            said = office(command, *self.tables(programmes, residents), "--out", out, "--keep", "Email")
+            self.assertEqual((said.status, said.err), (0, ""))
+        of_match = (["letters", match, "--out", new], ["letters", match, "--preview", "1"], ["withdraw", match, "Kim Lee", "--out", new],
+                    ["why", match, "Kim Lee", "--letter"], ["compare", match, match], ["next", match, "--out", new])
+        of_sealed = (["run", sealed, "--out", new], ["withdraw", sealed, "Kim Lee", "--out", new])
+        # In which file a text stands, and the text, parted where the sign comes in.
+        texts = (("key", "Zoë", " Brontë"), ("key", "I", " 1"), ("table", "Em", "ail"), ("table", "Bront", "ë"), ("table", "me@", "work"))
+        for c, shown in {**ODD, **LINES, **TAB, **LINE, "\xad": r"\xad", "\u202e": r"\u202e"}.items():
+            for out, table, lines in ((match, "matches.csv", of_match), (sealed, "details.csv", of_sealed)):
+                for name, before, after in ((table if name == "table" else "key.csv", before, after) for name, before, after in texts):
+                    with self.changed(out, name, f"{before}{after}", f"{before}{c}{after}"):
+                        for line in lines if c == "\x1b" else lines[:1]:
+                            self.refused(f"{out}: {name}: {before}{shown}{after} has the character {shown}, which is no letter", *line)
 
-        def refused(folder: Path, name: str, before: str, after: str, error: str, lines: Sequence[Sequence[object]]) -> None:
-            data, manifest = (folder / name).read_bytes(), (folder / "manifest.json").read_bytes()
-            changed = data.decode("utf-8").replace(before, after).encode("utf-8")
-            self.assertNotEqual(changed, data)
-            (folder / name).write_bytes(changed)
-            said = json.loads(manifest)
-            said["sha256"][name] = hashlib.sha256(changed).hexdigest()
-            (folder / "manifest.json").write_text(json.dumps(said))
-            for line in lines:
-                self.refused(f"{folder}: {name}: {error}, which is no letter", *line)
-            (folder / name).write_bytes(data)
-            (folder / "manifest.json").write_bytes(manifest)
-
-        for c, shown in {**ODD, **LINES, **TAB, "\xad": r"\xad", "\u202e": r"\u202e"}.items():
-            some = slice(None) if c == "\x1b" else slice(1)
-            for folder, lines_ in ((at, words[some]), (room / "sealed", sealed[some])):
-                refused(folder, "key.csv", "Zoë Brontë,", f"Zoë{c}Brontë,", f"Zoë{shown}Brontë has the character {shown}", lines_)
-                refused(folder, "key.csv", ",I3\n", f",I{c}3\n", f"I{shown}3 has the character {shown}", lines_)
-            for folder, name, lines_ in ((at, "matches.csv", words[some]), (room / "sealed", "details.csv", sealed[some])):
-                for before, error in ((",Email", f"E{shown}mail"), (",F3,", f"F{shown}3"), (",3\n", f"{shown}3")):
-                    refused(folder, name, before, f"{before[:2]}{c}{before[2:]}" if before[1] != "3" else f",{c}3\n", f"{error} has the character {shown}", lines_)
-        refused(at, "key.csv", "Zoë Brontë,", '"Zoë\nBrontë",', r"Zoë\nBrontë has the character \n", words)
+    @contextlib.contextmanager
+    def changed(self, out: Path, name: str, before: str, after: str) -> Iterator[None]:
+        """A cell of a folder's table, with its hash, is another one; and then what it was."""
+        data, manifest = (out / name).read_bytes(), (out / "manifest.json").read_bytes()
+        rows = [[cell.replace(before, after) for cell in row] for row in csv.reader(io.StringIO(data.decode("utf-8"), newline=""))]
+        with (out / name).open("w", encoding="utf-8", newline="") as file:
+            csv.writer(file, lineterminator="\n").writerows(rows)
+        self.assertNotEqual((out / name).read_bytes(), data)
+        said = json.loads(manifest)
+        said["sha256"][name] = hashlib.sha256((out / name).read_bytes()).hexdigest()
+        (out / "manifest.json").write_text(json.dumps(said), encoding="utf-8")
+        yield
+        (out / name).write_bytes(data)
+        (out / "manifest.json").write_bytes(manifest)
 
     def test_what_the_desk_is_told(self) -> None:
         """By its page, or by a file of settings."""
