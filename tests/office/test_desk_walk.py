@@ -279,7 +279,7 @@ class Tables(DeskTest):
         self.assertEqual({code for code, sentence in sentences.DESK.items() if isinstance(sentence, str) and "--" in sentence}, set())
         cases = {"heading.several": {"heading": "Platz", "roles": ["rank", "places"]},
                  "file.phrase-values": {"name": "x", "values": []}, "file.some-ids": {"count": 1, "of": 2, "owners": "resident", "name": "Kim"},
-                 "file.kind": {"what": "pdf"}, "heading.none": {"owners": "resident", "cells": ("a",)}, "note.shared": {"names": [("Kim", ["1", "2"])]},
+                 "file.kind": {"what": "pdf"}, "file.no-sheet": {"sheet": "Table", "sheets": []}, "heading.none": {"owners": "resident", "cells": ("a",)}, "note.shared": {"names": [("Kim", ["1", "2"])]},
                  "row.other-mark": {"other": ";", "delimiter": ",", "declared": False, "sheet": None}}
         self.assertEqual({*cases}, {code for code, sentence in sentences.DESK.items() if not isinstance(sentence, str)})
         for code, values in cases.items():
